@@ -1,0 +1,13 @@
+-- Cases on numbers, into any goal.
+-- Assumes nothing.
+use Prim.Native.Nat.{ℕ, _≤_, _<_}
+use native.Mathlib.Omega.{arith}
+use native.Mathlib.Decide.{decLt}
+
+-- by whether a is below b
+pub by-lt {ℓ} : {C : Type ℓ} (a b : ℕ) → (a < b → C) → (b ≤ a → C) → C
+by-lt {C} a b f g = go (decLt a b)
+  where
+    go : Dec (a < b) → C
+    go (yes h) = f h
+    go (no h) = g (omega arith)

@@ -1,0 +1,23 @@
+-- Tests on lists.
+use Prim.Native.Nat.{ℕ}
+use mathlib.Core.List.{List, [], _∷_}
+use mathlib.Core.Bool.{Bool, true, false, _&&_, _||_}
+use lib.Dec.{eqb}
+
+module _ {A : Type 0} where
+  -- the test passes at every element
+  unfoldable pub all : (A → Bool) → List A → Bool
+  all f [] = true
+  all f (x ∷ xs) = f x && all f xs
+
+  -- the test passes at some element
+  unfoldable pub any : (A → Bool) → List A → Bool
+  any f [] = false
+  any f (x ∷ xs) = f x || any f xs
+
+-- two lists of numbers are the same
+unfoldable pub same : List ℕ → List ℕ → Bool
+same [] [] = true
+same [] (y ∷ ys) = false
+same (x ∷ xs) [] = false
+same (x ∷ xs) (y ∷ ys) = eqb x y && same xs ys

@@ -1,0 +1,31 @@
+// What every crate above shares: 32-bit numbers in byte slices, highest byte first. The laws on numbers, lists and tables stand in proofs/.
+ghost use mathlib.Core.Path.{_≡_};
+ghost use Prim.Native.Nat.{_+_, _≤_, _<_};
+ghost use lib.ListN.{length};
+ghost use lib.Seq.{sets};
+ghost use Rattle.basics.specs.Words.{word, wordAt};
+
+fn wide(b: u8) -> u32
+    ensures { λ r. ⌜ (r ≡ b) × (r < 256) ⌝ }
+{
+    b as u32
+}
+
+// The number in the four bytes from `at` on.
+pub fn read_word(s: &[u8], at: usize) -> u32
+    requires { ⌜ at + 4 ≤ length (now s) ⌝ }
+    ensures { λ r. ⌜ r ≡ wordAt (now (s .entry)) at ⌝ }
+{
+    wide(s[at]) * 16777216 + wide(s[at + 1]) * 65536 + wide(s[at + 2]) * 256 + wide(s[at + 3])
+}
+
+// Writes a number into the four bytes from `at` on.
+pub fn write_word(s: &mut [u8], at: usize, n: u32)
+    requires { ⌜ at + 4 ≤ length (now s) ⌝ }
+    ensures { λ r. ⌜ now (s .exit) ≡ sets (now (s .entry)) at (word n) ⌝ }
+{
+    s[at] = (n / 16777216) as u8;
+    s[at + 1] = (n / 65536 % 256) as u8;
+    s[at + 2] = (n / 256 % 256) as u8;
+    s[at + 3] = (n % 256) as u8;
+}

@@ -1,0 +1,5 @@
+pub mod Values
+pub mod Codes
+pub mod Laws
+pub mod Marked
+pub mod Reading

@@ -1,0 +1,11 @@
+-- `postings::marked_cases_hold` meets its contract.
+-- Assumes nothing.
+use Rattle.postings.proofs.Marked.{marked-right}
+use Rattle.postings.proofs.marked_cases_hold.Statement.{statement}
+use Rattle.postings.proofs.marked_cases_hold.Tie as tie
+
+returns : tie.Need-returns
+returns c = marked-right
+
+pub marked-cases-hold-spec : {M : Type 1} → statement M
+marked-cases-hold-spec = tie.close (tie.spec returns)
