@@ -1,13 +1,17 @@
 -- Laws of the tests on lists.
 -- Assumes nothing.
-use Prim.Native.Nat.{ℕ}
+use Prim.Native.Nat.{ℕ, zero, suc, _+_, _<_}
 use mathlib.Core.Path.{_≡_, refl}
 use mathlib.Core.Bool.{Bool, true, false, _&&_}
-use mathlib.Core.List.{List, [], _∷_}
+use mathlib.Core.List.{List, [], _∷_, map}
 use native.Mathlib.Omega.{arith}
+use native.Mathlib.Numerals.{add-one}
+use native.Mathlib.Nat.{le-of-suc-le-suc}
 use borrow.Author.Tests.{eqb-true, eq-eqb}
 use lib.Dec.{eqb}
-use Rattle.basics.specs.Lists.{same}
+use lib.ListN.{length, getD, take, drop}
+use lib.Seq.{drop-cons}
+use Rattle.basics.specs.Lists.{all, same}
 
 -- ---- conjunctions
 
@@ -18,6 +22,38 @@ and-left false b e = e
 pub and-right : (a b : Bool) → a && b ≡ true → b ≡ true
 and-right true b e = e
 and-right false b e = let z : _≡_ {A = ℕ} 0 1 = cc in absurd (omega arith)
+
+pub and-false : (a : Bool) → a && false ≡ false
+and-false true = refl
+and-false false = refl
+
+-- ---- a test at every element
+
+module _ {A : Type 0} (f : A → Bool) where
+  -- a test that passes at all elements passes at each
+  pub all-at : (s : List A) (d : A) → all f s ≡ true → (i : ℕ) → i < length s → f (getD s i d) ≡ true
+  unfolding all
+  all-at [] d e i h = absurd (omega arith)
+  all-at (x ∷ s) d e zero h = and-left (f x) (all f s) e
+  all-at (x ∷ s) d e (suc i) h = all-at s d (and-right (f x) (all f s) e) i (le-of-suc-le-suc h)
+
+  -- what is left of the test at the i-th element
+  pub all-drop : (s : List A) (d : A) (i : ℕ) → i < length s → all f (drop i s) ≡ f (getD s i d) && all f (drop (i + 1) s)
+  unfolding all
+  all-drop s d i h = rw (add-one, drop-cons s i d)
+
+-- ---- a map of a part
+
+module _ {A B : Type 0} (f : A → B) where
+  pub map-take : (i : ℕ) (s : List A) → map f (take i s) ≡ take i (map f s)
+  map-take zero s = refl
+  map-take (suc i) [] = refl
+  map-take (suc i) (x ∷ s) = rw (map-take i s)
+
+  pub map-drop : (i : ℕ) (s : List A) → map f (drop i s) ≡ drop i (map f s)
+  map-drop zero s = refl
+  map-drop (suc i) [] = refl
+  map-drop (suc i) (x ∷ s) = map-drop i s
 
 -- ---- the same list
 
@@ -38,3 +74,10 @@ same-eq (x ∷ s) (y ∷ t) e =
     let p : x ≡ y = eqb-true x y (and-left (eqb x y) (same s t) e) in
     let q : s ≡ t = same-eq s t (and-right (eqb x y) (same s t) e) in
     cc
+
+pub ne-same : (s t : List ℕ) → (s ≡ t → ⊥) → same s t ≡ false
+ne-same s t n = go (same s t) refl
+  where
+    go : (b : Bool) → same s t ≡ b → same s t ≡ false
+    go true e = absurd (n (same-eq s t e))
+    go false e = e

@@ -1,42 +1,49 @@
+-- `terms::fnv1a` meets its contract: the hash of the whole is the hash so far with the bytes left mixed in.
+-- Assumes nothing.
+use mathlib.Core.Path.{_≡_, refl, sym, _∙_}
+use Prim.Native.Nat.{_-_}
+use native.Mathlib.Omega.{arith}
+use borrow.Author.Needs.{needs}
+use lib.ListN.{length, drop, drop-of-length-le}
+use Rattle.terms.specs.Terms.{mixedAll, fnv1a}
+use Rattle.terms.proofs.Laws.{mixedAll-more}
 use Rattle.terms.proofs.fnv1a.Statement.{statement}
 use Rattle.terms.proofs.fnv1a.Tie as tie
-use Rattle.terms.proofs.fnv1a.Reads as reads
-use Rattle.terms.proofs.fnv1a.Lts as lts
-use Rattle.terms.proofs.mix.Reads as mix-reads
 
 abbrev Inv-loop : tie.InvT-loop
-Inv-loop s hash₀ i₀ hash i = ?
+Inv-loop s hash₀ i₀ hash i = fnv1a s ≡ mixedAll hash (drop i s)
 
 abbrev μ-loop : tie.MeasureT-loop
-μ-loop s hash₀ i₀ hash i = ?
+μ-loop s hash₀ i₀ hash i = length s - i
 
--- src/lib.rt:323:5
 loop-holds : tie.Need-loop-holds Inv-loop μ-loop
-loop-holds c = ?
+unfolding fnv1a
+loop-holds c = refl
 
--- src/lib.rt:324:26
 shared-slice-read-mix : tie.Need-shared-slice-read-mix Inv-loop μ-loop
-shared-slice-read-mix c = ?
+shared-slice-read-mix c = search needs
 
--- src/lib.rt:324:9
 mix-requires : tie.Need-mix-requires Inv-loop μ-loop
-mix-requires c κs = ?
+mix-requires c κs = search needs
 
--- src/lib.rt:325:9
 add-i : tie.Need-add-i Inv-loop μ-loop
-add-i c = ?
+add-i c = omega arith
 
--- src/lib.rt:323:5
 loop-less : tie.Need-loop-less Inv-loop μ-loop
-loop-less c = ?
+loop-less c = omega arith
 
--- src/lib.rt:323:5
 loop-again : tie.Need-loop-again Inv-loop μ-loop
-loop-again c = ?
+loop-again c =
+    let l = c .before .before .before in
+    let s = l .before .before .args .s .now in
+    l .loop .inv ∙ mixedAll-more (l .loop .hash) s (l .loop .i) (c .before .before .loop-test .taken) ∙ rw (c .mix .ensures)
 
--- src/lib.rt:318:1
 returns : tie.Need-returns Inv-loop μ-loop
-returns c = ?
+unfolding mixedAll
+returns c =
+    let l = c .before in
+    let s = l .before .before .args .s .now in
+    sym (l .loop .inv ∙ rw (drop-of-length-le s (c .loop-test .left)))
 
 pub fnv1a-spec : {M : Type 1} → statement M
 fnv1a-spec =

@@ -1,53 +1,77 @@
+-- `terms::is_term` meets its contract: all bytes are allowed exactly when those left are.
+-- Assumes nothing.
+use mathlib.Core.Path.{_≡_, refl, sym, _∙_}
+use mathlib.Core.Logic.{⊎-elim}
+use mathlib.Core.List.{List}
+use Prim.Native.Nat.{ℕ, _-_}
+use borrow.Author.Tests.{ltb-true, ltb-false}
+use Rattle.basics.proofs.Lists.{all-drop}
+use Rattle.terms.proofs.Laws.{isTerm-short, isTerm-long, isTerm-allowed, fold-barred, fold-allowed}
+use native.Mathlib.Omega.{arith}
+use borrow.Author.Needs.{needs}
+use lib.ListN.{length, getD, drop, drop-of-length-le}
+use Rattle.basics.specs.Lists.{all}
+use Rattle.terms.specs.Terms.{allowed, foldByte, isTerm}
+use Rattle.terms.proofs.Folding.{table, rule}
 use Rattle.terms.proofs.is_term.Statement.{statement}
 use Rattle.terms.proofs.is_term.Tie as tie
-use Rattle.terms.proofs.is_term.Reads as reads
-use Rattle.terms.proofs.is_term.Lts as lts
 
 abbrev Inv-loop : tie.InvT-loop
-Inv-loop s i₀ i = ?
+Inv-loop s i₀ i = all allowed s ≡ all allowed (drop i s)
 
 abbrev μ-loop : tie.MeasureT-loop
-μ-loop s i₀ i = ?
+μ-loop s i₀ i = length s - i
 
--- src/lib.rt:280:9
 returns : tie.Need-returns Inv-loop μ-loop
-returns c = ?
+returns c =
+    let s = c .before .args .s .now in
+    ⊎-elim (λ w. sym (isTerm-short s (omega arith))) (λ w. sym (isTerm-long s (ltb-true 36 (length s) (w .1 .taken)))) (c .if1 .came)
 
--- src/lib.rt:283:5
+-- the bytes are a term where all are allowed, since their number is right
+module _ (c : tie.At-loop Inv-loop μ-loop) where
+  abbrev s : List ℕ
+  s = c .before .before .before .args .s .now
+
+  left : isTerm s ≡ all allowed (drop (c .loop .i) s)
+  left = isTerm-allowed s (omega (arith, c .before .before .if1 .left)) (ltb-false 36 (length s) (c .before .if2 .left)) ∙ c .loop .inv
+
 loop-holds : tie.Need-loop-holds Inv-loop μ-loop
-loop-holds c = ?
+loop-holds c = refl
 
--- src/lib.rt:284:19
 shared-slice-read-if3 : tie.Need-shared-slice-read-if3 Inv-loop μ-loop
-shared-slice-read-if3 c = ?
+shared-slice-read-if3 c = search needs
 
--- src/lib.rt:284:19
 cast-if3 : tie.Need-cast-if3 Inv-loop μ-loop
-cast-if3 c = ?
+cast-if3 c = omega (arith, c .shared-slice-known .given (c .before .before .loop .i))
 
--- src/lib.rt:284:12
 array-read-if3 : tie.Need-array-read-if3 Inv-loop μ-loop
-array-read-if3 c = ?
+array-read-if3 c = omega (arith, c .shared-slice-known .given (c .before .before .loop .i))
 
--- src/lib.rt:285:13
 returns-2 : tie.Need-returns-2 Inv-loop μ-loop
-returns-2 c = ?
+unfolding table
+returns-2 c =
+    let l = c .before .before .before in
+    let b = getD (s l) (l .loop .i) 0 in
+    let e : foldByte b ≡ 0 = sym (rule b (omega (arith, c .before .shared-slice-known .given (l .loop .i)))) ∙ c .if3 .taken in
+    sym (left l ∙ all-drop allowed (s l) 0 (l .loop .i) (c .before .before .loop-test .taken) ∙ rw (fold-barred b e))
 
--- src/lib.rt:287:9
 add-i : tie.Need-add-i Inv-loop μ-loop
-add-i c = ?
+add-i c = omega arith
 
--- src/lib.rt:283:5
 loop-less : tie.Need-loop-less Inv-loop μ-loop
-loop-less c = ?
+loop-less c = omega arith
 
--- src/lib.rt:283:5
 loop-again : tie.Need-loop-again Inv-loop μ-loop
-loop-again c = ?
+unfolding table
+loop-again c =
+    let l = c .before .before .before in
+    let b = getD (s l) (l .loop .i) 0 in
+    let e : getD table b 0 ≡ foldByte b = rule b (omega (arith, c .before .shared-slice-known .given (l .loop .i))) in
+    l .loop .inv ∙ all-drop allowed (s l) 0 (l .loop .i) (c .before .before .loop-test .taken) ∙ rw (fold-allowed b (λ z. c .if3 .left (e ∙ z)))
 
--- src/lib.rt:276:1
 returns-3 : tie.Need-returns-3 Inv-loop μ-loop
-returns-3 c = ?
+unfolding all
+returns-3 c = sym (left (c .before) ∙ rw (drop-of-length-le (s (c .before)) (c .loop-test .left)))
 
 pub is-term-spec : {M : Type 1} → statement M
 is-term-spec =

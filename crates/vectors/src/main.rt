@@ -1,0 +1,128 @@
+// Answers the questions on standard input, a line each: codings, decodings, foldings and hashes by the proved functions. The stored questions and
+// the expected answers are written by the Rust reference (rust/reference), which shares no code with the functions under test.
+ghost use Prim.Native.Nat.{_<_};
+use io::number::print_decimal;
+use io::number::print_hex;
+use libc::STDIN_FILENO;
+use libc::STDOUT_FILENO;
+use postings::Decoded;
+
+fn wide(b: u8) -> u64
+    ensures { λ r. ⌜ r < 256 ⌝ }
+{
+    b as u64
+}
+
+fn print(text: &[u8]) {
+    io::write_all(STDOUT_FILENO, text);
+}
+
+// A space and a number.
+fn print_number(n: u64) {
+    print(b" ");
+    print_decimal(STDOUT_FILENO, n);
+}
+
+// A space and the bytes in hexadecimal, `-` for none.
+fn print_bytes(s: &[u8]) {
+    print(b" ");
+    if s.len() == 0 {
+        print(b"-");
+    }
+    let mut i: usize = 0;
+    while i < s.len() {
+        print_hex(STDOUT_FILENO, wide(s[i]), 2);
+        i += 1;
+    }
+}
+
+// A space and a hash in eight hexadecimal digits.
+fn print_hash(hash: u32) {
+    print(b" ");
+    print_hex(STDOUT_FILENO, hash as u64, 8);
+}
+
+// Sort 1: the hash of the bytes as they stand.
+fn hash(payload: &[u8]) {
+    print(b"fnv");
+    print_bytes(payload);
+    print_hash(terms::fnv1a(payload));
+}
+
+// Sort 2: the code of a posting.
+fn code(payload: &[u8]) {
+    if payload.len() != 8 {
+        return;
+    }
+    let gap = basics::read_word(payload, 0);
+    let count = basics::read_word(payload, 4);
+    if gap == 0 {
+        return;
+    }
+    let mut bytes = [0u8; 10];
+    let end = postings::put_posting(&mut bytes, 0, gap, count);
+    print(b"code");
+    print_number(gap as u64);
+    print_number(count as u64);
+    print_bytes(&bytes[..end]);
+}
+
+// Sort 3: the posting at the front of the bytes.
+fn decode(payload: &[u8]) {
+    print(b"decode");
+    print_bytes(payload);
+    match postings::decode(payload) {
+        Decoded::Rejected => print(b" refused"),
+        Decoded::Posting { gap, count, length } => {
+            print_number(gap as u64);
+            print_number(count as u64);
+            print_number(length as u64);
+        }
+    }
+}
+
+// Sort 4: the folded term and its hash.
+fn fold(payload: &[u8]) {
+    print(b"term");
+    print_bytes(payload);
+    if !terms::is_term(payload) {
+        print(b" refused");
+        return;
+    }
+    let t = terms::fold(payload);
+    let bytes = t.bytes;
+    let n = t.length;
+    print_bytes(&bytes[..n]);
+    print_hash(t.hash);
+}
+
+fn answer(sort: u8, payload: &[u8]) {
+    match sort {
+        1 => hash(payload),
+        2 => code(payload),
+        3 => decode(payload),
+        4 => fold(payload),
+        _ => print(b"unknown"),
+    }
+    print(b"\n");
+}
+
+// A question: its sort, the two-byte length of its payload, the payload.
+fn answer_all(s: &[u8]) {
+    let mut at: usize = 0;
+    while at + 3 <= s.len() {
+        let from = at + 3;
+        let to = from + (wide(s[at + 1]) * 256 + wide(s[at + 2])) as usize;
+        if s.len() < to {
+            return;
+        }
+        answer(s[at], &s[from..to]);
+        at = to;
+    }
+}
+
+fn main() {
+    let mut questions = [0u8; 131072];
+    let n = io::read_full(STDIN_FILENO, &mut questions);
+    answer_all(&questions[..n]);
+}
