@@ -1,15 +1,15 @@
--- Laws of the tests on lists.
+-- Laws of the tests on lists, and of parts of lists.
 -- Assumes nothing.
-use Prim.Native.Nat.{ℕ, zero, suc, _+_, _<_}
+use Prim.Native.Nat.{ℕ, zero, suc, _+_, _-_, _<_}
 use mathlib.Core.Path.{_≡_, refl}
 use mathlib.Core.Bool.{Bool, true, false, _&&_}
 use mathlib.Core.List.{List, [], _∷_, map}
 use native.Mathlib.Omega.{arith}
 use native.Mathlib.Numerals.{add-one}
-use native.Mathlib.Nat.{le-of-suc-le-suc}
+use native.Mathlib.Nat.{le-of-suc-le-suc, sub-zero, zero-sub, suc-sub-suc}
 use borrow.Author.Tests.{eqb-true, eq-eqb}
 use lib.Dec.{eqb}
-use lib.ListN.{length, getD, take, drop}
+use lib.ListN.{length, getD, take, drop, replicate}
 use lib.Seq.{drop-cons}
 use Rattle.basics.specs.Lists.{all, same}
 
@@ -37,7 +37,7 @@ module _ {A : Type 0} (f : A → Bool) where
   all-at (x ∷ s) d e zero h = and-left (f x) (all f s) e
   all-at (x ∷ s) d e (suc i) h = all-at s d (and-right (f x) (all f s) e) i (le-of-suc-le-suc h)
 
-  -- what is left of the test at the i-th element
+  -- the test at the elements from the i-th on: at the i-th, and at those behind it
   pub all-drop : (s : List A) (d : A) (i : ℕ) → i < length s → all f (drop i s) ≡ f (getD s i d) && all f (drop (i + 1) s)
   unfolding all
   all-drop s d i h = rw (add-one, drop-cons s i d)
@@ -54,6 +54,14 @@ module _ {A B : Type 0} (f : A → B) where
   map-drop zero s = refl
   map-drop (suc i) [] = refl
   map-drop (suc i) (x ∷ s) = map-drop i s
+
+-- ---- n times a
+
+-- what is left of it
+pub drop-replicate : {A : Type 0} (i n : ℕ) (a : A) → drop i (replicate n a) ≡ replicate (n - i) a
+drop-replicate zero n a = rw sub-zero
+drop-replicate (suc i) zero a = rw zero-sub
+drop-replicate (suc i) (suc n) a = rw suc-sub-suc (drop-replicate i n a)
 
 -- ---- the same list
 
@@ -75,6 +83,7 @@ same-eq (x ∷ s) (y ∷ t) e =
     let q : s ≡ t = same-eq s t (and-right (eqb x y) (same s t) e) in
     cc
 
+-- lists that differ fail the test
 pub ne-same : (s t : List ℕ) → (s ≡ t → ⊥) → same s t ≡ false
 ne-same s t n = go (same s t) refl
   where

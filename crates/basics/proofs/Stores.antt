@@ -1,15 +1,16 @@
--- Stores of several elements, one list after the other.
+-- Stores of several elements, one after the other.
 -- Assumes nothing.
 use mathlib.Core.Path.{_≡_, _∙_}
 use mathlib.Core.List.{List, [], _∷_, _++_}
-use Prim.Native.Nat.{ℕ, zero, suc, _+_, _-_, _≤_}
-use native.Mathlib.Nat.{add-zero, zero-add, sub-zero, zero-sub, suc-sub-suc}
+use Prim.Native.Nat.{ℕ, suc, _+_, _-_, _≤_}
+use native.Mathlib.Nat.{add-zero, zero-add}
 use native.Mathlib.Numerals.{add-one}
 use native.Mathlib.Omega.{arith}
-use lib.ListN.{length, set, drop, replicate, length-replicate}
+use lib.ListN.{length, set, replicate, length-replicate}
 use lib.Seq.{sets, sets-eq}
+use Rattle.basics.proofs.Lists.{drop-replicate}
 
--- the first of the stores
+-- the first of several stores, and those that are left
 pub sets-cons : {A : Type 0} (s : List A) (i : ℕ) (x : A) (t : List A) → sets s i (x ∷ t) ≡ sets (set s i x) (i + 1) t
 sets-cons s i x t = rw add-one
 
@@ -23,12 +24,6 @@ sets-append s i (x ∷ a) b =
 -- the same for what two calls left
 pub sets-two : (s : List ℕ) (i : ℕ) (a b : List ℕ) {t u : List ℕ} {j : ℕ} → t ≡ sets s i a → j ≡ i + length a → u ≡ sets t j b → u ≡ sets s i (a ++ b)
 sets-two s i a b p q r = r ∙ rw (p, q) (sets-append s i a b)
-
--- the rest of n times a
-pub drop-replicate : {A : Type 0} (i n : ℕ) (a : A) → drop i (replicate n a) ≡ replicate (n - i) a
-drop-replicate zero n a = rw sub-zero
-drop-replicate (suc i) zero a = rw zero-sub
-drop-replicate (suc i) (suc n) a = rw suc-sub-suc (drop-replicate i n a)
 
 -- a list stored at the front of n times a
 pub sets-front : {A : Type 0} (s : List A) (n : ℕ) (a : A) → length s ≤ n → sets (replicate n a) 0 s ≡ s ++ replicate (n - length s) a

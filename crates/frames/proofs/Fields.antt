@@ -1,13 +1,13 @@
 -- Laws of the fields of a frame: where they start, and that whole ones stand there.
 -- Assumes nothing.
 use mathlib.Core.Path.{_≡_, refl, sym, ap, _∙_}
-use mathlib.Core.Bool.{Bool, true, false, _||_}
+use mathlib.Core.Bool.{Bool, true, false}
 use mathlib.Core.List.{List, [], _∷_}
-use Prim.Native.Nat.{ℕ, zero, suc, _+_, _-_, _≤_, _<_}
+use Prim.Native.Nat.{ℕ, zero, suc, _+_, _≤_, _<_}
 use native.Mathlib.Omega.{arith}
-use lib.Dec.{ltb}
-use lib.ListN.{length, getD}
-use borrow.Author.Tests.{lt-ltb, le-ltb, ltb-true, ltb-false}
+use native.Mathlib.Numerals.{add-one}
+use lib.ListN.{length}
+use borrow.Author.Tests.{lt-ltb, le-ltb}
 use Rattle.basics.specs.Lists.{any}
 use Rattle.basics.proofs.Cases.{by-lt}
 use Rattle.frames.specs.Frames.{pastField, Field, fieldsUpTo, fields, passesEnd}
@@ -65,6 +65,11 @@ module _ (tail : ℕ) (f : List ℕ) where
   pub whole-on : (at : ℕ) → passesEnd tail f at ≡ false → at < length f → passesEnd tail f (pastField tail f at) ≡ false
   whole-on at e h = sym (passes-on at h (field-here at e h .ends)) ∙ e
 
+  -- the term of a whole field lies within the frame
+  pub field-term : (at : ℕ) → Field tail f at → Field 0 f at
+  unfolding pastField
+  field-term at h = record { starts = h .starts; ends = omega arith }
+
   -- ---- a test at every field, one after the other
 
   pub any-end : (test : ℕ → Bool) (at : ℕ) → length f ≤ at → any test (fields tail f at) ≡ false
@@ -78,3 +83,6 @@ module _ (tail : ℕ) (f : List ℕ) where
   pub any-on : (test : ℕ → Bool) (at : ℕ) → at < length f → test at ≡ false → any test (fields tail f at) ≡ any test (fields tail f (pastField tail f at))
   unfolding any
   any-on test at h e = rw (fields-more at h, e)
+
+  pub length-more : (at : ℕ) → at < length f → length (fields tail f at) ≡ length (fields tail f (pastField tail f at)) + 1
+  length-more at h = rw (fields-more at h, add-one)

@@ -1,1 +1,5 @@
+pub mod Refusals
 pub mod Fields
+pub mod Heads
+pub mod Conditions
+pub mod Queries

@@ -1,7 +1,7 @@
 -- How repeated lines are found: lines whose folded terms share a bucket are chained, each to the one before it.
 use Prim.Native.Nat.{ℕ, zero, suc, _%_, _<_}
 use mathlib.Core.List.{List, [], _∷_, List·Memᴰ}
-use mathlib.Core.Bool.{Bool, cond}
+use mathlib.Core.Bool.{cond}
 use lib.Dec.{eqb}
 use lib.ListN.{length, getD}
 use Rattle.terms.specs.Terms.{fnv1a}

@@ -57,8 +57,9 @@ impl Cursor {
         requires { ⌜ Field 0 (now frame) (self .at) ⌝ }
         ensures { λ r. ⌜ now r ≡ termAt (now (frame .entry)) (self .at) ⌝ }
     {
-        let from = self.at + 1;
-        let to = from + wide(frame[from - 1]);
+        let at = self.at;
+        let from = at + 1;
+        let to = from + wide(frame[at]);
         &frame[from..to]
     }
 
@@ -73,14 +74,22 @@ impl Cursor {
 
     // The cursor past the field here, which has `tail` bytes behind its term.
     pub fn past(self, frame: &[u8], tail: usize) -> Self
-        requires { ⌜ Field tail (now frame) (self .at) ⌝ }
+        requires { ⌜ (self .at < length (now frame)) × (tail ≤ countBytes) ⌝ }
         ensures { λ r. ⌜ r .at ≡ pastField tail (now (frame .entry)) (self .at) ⌝ }
     {
         let at = self.at;
         Cursor {
-            at: at + 1 + wide(frame[at]) + tail,
+            at: past_field(frame, at, tail),
         }
     }
+}
+
+// The offset past the field at `at`, which has `tail` bytes behind its term.
+fn past_field(frame: &[u8], at: usize, tail: usize) -> usize
+    requires { ⌜ (at < length (now frame)) × (tail ≤ countBytes) ⌝ }
+    ensures { λ r. ⌜ r ≡ pastField tail (now (frame .entry)) at ⌝ }
+{
+    at + 1 + wide(frame[at]) + tail
 }
 
 // ---- the conditions
@@ -115,7 +124,7 @@ fn passes_end(frame: &[u8], from: usize, tail: usize) -> bool
 {
     let mut at = from;
     while at < frame.len() {
-        let past = at + 1 + wide(frame[at]) + tail;
+        let past = past_field(frame, at, tail);
         if frame.len() < past {
             return true;
         }
@@ -132,7 +141,7 @@ fn count_terms(frame: &[u8]) -> usize
     let mut at: usize = 8;
     let mut n: usize = 0;
     while at < frame.len() {
-        at += 1 + wide(frame[at]);
+        at = past_field(frame, at, 0);
         n += 1;
     }
     n

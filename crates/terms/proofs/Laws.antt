@@ -37,16 +37,18 @@ by-kind C b barred big plain = go (allowed b) (capital b) refl refl
     go true true p q = rw (p, q) (big (leb-true 0x41 b (and-left (leb 0x41 b) (leb b 0x5a) q)) (leb-true b 0x5a (and-right (leb 0x41 b) (leb b 0x5a) q)))
     go true false p q = rw (p, q) (plain p q)
 
--- a barred byte folds to 0, and no allowed byte does
+-- a byte folds to 0 exactly when it is barred: barred bytes do
 pub barred-fold : (b : ℕ) → allowed b ≡ false → foldByte b ≡ 0
 unfolding foldByte
 barred-fold b e = rw e
 
+-- an allowed byte does not
 pub allowed-fold-pos : (b : ℕ) → allowed b ≡ true → 0 < foldByte b
 allowed-fold-pos b e =
     by-kind (λ (x : ℕ). 0 < x) b (λ p. let z : _≡_ {A = ℕ} 0 1 = cc in absurd (omega arith)) (λ l h. omega arith)
     (λ p q. omega (arith, allowed-range b p))
 
+-- so that the folded byte tells which it is
 pub fold-barred : (b : ℕ) → foldByte b ≡ 0 → allowed b ≡ false
 fold-barred b e = go (allowed b) refl
   where
@@ -66,7 +68,7 @@ pub fold-byte : (b : ℕ) → foldByte b < 256
 fold-byte b =
     by-kind (λ (x : ℕ). x < 256) b (λ p. omega arith) (λ l h. omega arith) (λ p q. omega (arith, allowed-range b p))
 
--- folding a byte leaves it allowed or barred
+-- folding leaves a byte allowed or barred, as it was
 pub allowed-fold : (b : ℕ) → allowed (foldByte b) ≡ allowed b
 unfolding allowed
 allowed-fold b =
@@ -84,10 +86,12 @@ fold-fold b =
 
 -- ---- a list of bytes
 
+-- folding keeps the length
 pub length-folded : (s : List ℕ) → length (folded s) ≡ length s
 unfolding folded
 length-folded s = length-map s foldByte
 
+-- two lists folded, a front, a rest, and one byte
 pub folded-append : (s t : List ℕ) → folded (s ++ t) ≡ folded s ++ folded t
 unfolding folded
 folded-append s t = map-append foldByte s t
@@ -104,7 +108,7 @@ pub folded-at : (s : List ℕ) (i : ℕ) → getD (folded s) i 0 ≡ foldByte (g
 unfolding folded foldByte allowed
 folded-at s i = List·getD-map foldByte s i 0
 
--- what is left to fold at the i-th byte
+-- what is left from the i-th byte on, and from the end on
 pub folded-more : (s : List ℕ) (i : ℕ) → i < length s → folded (drop i s) ≡ foldByte (getD s i 0) ∷ folded (drop (i + 1) s)
 unfolding folded
 folded-more s i h = rw (add-one, drop-cons s i 0)
@@ -113,11 +117,13 @@ pub folded-none : (s : List ℕ) (i : ℕ) → length s ≤ i → folded (drop i
 unfolding folded
 folded-none s i h = rw (drop-of-length-le s h)
 
+-- folding twice is folding once
 pub folded-folded : (s : List ℕ) → folded (folded s) ≡ folded s
 unfolding folded
 folded-folded [] = refl
 folded-folded (b ∷ s) = rw (fold-fold b, folded-folded s)
 
+-- folding leaves all bytes allowed, or some barred
 pub all-folded : (s : List ℕ) → all allowed (folded s) ≡ all allowed s
 unfolding folded all
 all-folded [] = refl
@@ -125,7 +131,7 @@ all-folded (b ∷ s) = rw (allowed-fold b, all-folded s)
 
 -- ---- a term
 
--- a term has 1 to 36 bytes, and each is allowed
+-- a term has 1 to 36 bytes
 pub term-length : (s : List ℕ) → isTerm s ≡ true → (1 ≤ length s) × (length s ≤ maxTerm)
 unfolding isTerm
 term-length s e =
@@ -134,6 +140,7 @@ term-length s e =
       leb-true (length s) maxTerm (and-right (leb 1 (length s)) (leb (length s) maxTerm) l),
     )
 
+-- and all of them are allowed
 pub term-allowed : (s : List ℕ) → isTerm s ≡ true → all allowed s ≡ true
 unfolding isTerm
 term-allowed s e = and-right (leb 1 (length s) && leb (length s) maxTerm) (all allowed s) e
@@ -141,7 +148,7 @@ term-allowed s e = and-right (leb 1 (length s) && leb (length s) maxTerm) (all a
 pub term-allowed-at : (s : List ℕ) → isTerm s ≡ true → (i : ℕ) → i < length s → allowed (getD s i 0) ≡ true
 term-allowed-at s e = all-at allowed s 0 (term-allowed s e)
 
--- whether bytes of a right number are a term
+-- 1 to 36 bytes are a term exactly when all are allowed
 pub isTerm-allowed : (s : List ℕ) → 1 ≤ length s → length s ≤ maxTerm → isTerm s ≡ all allowed s
 unfolding isTerm
 isTerm-allowed s l h = rw (le-leb 1 (length s) l, le-leb (length s) maxTerm h)
@@ -166,7 +173,7 @@ term-byte s e i h = rw (folded-at s i) (allowed-fold-pos (getD s i 0) (term-allo
 
 -- ---- the hash
 
--- a byte more keeps a hash within 32 bits
+-- a hash has 32 bits
 pub mixed-small : (hash b : ℕ) → mixed hash b < 2 ^ 32
 unfolding mixed
 mixed-small hash b = omega arith
@@ -180,13 +187,14 @@ pub fnv1a-small : (s : List ℕ) → fnv1a s < 2 ^ 32
 unfolding fnv1a
 fnv1a-small s = mixedAll-small 2166136261 s (omega arith)
 
--- what is left to mix at the i-th byte
+-- what is left to mix from the i-th byte on
 pub mixedAll-more : (hash : ℕ) (s : List ℕ) (i : ℕ) → i < length s → mixedAll hash (drop i s) ≡ mixedAll (mixed hash (getD s i 0)) (drop (i + 1) s)
 unfolding mixedAll
 mixedAll-more hash s i h = rw (add-one, drop-cons s i 0)
 
 -- ---- a term folded once
 
+-- its length and its hash
 pub termOf-length : (s : List ℕ) → termOf s .length ≡ length s
 unfolding termOf
 termOf-length s = refl
@@ -195,21 +203,24 @@ pub termOf-hash : (s : List ℕ) → termOf s .hash ≡ fnv1a (folded s)
 unfolding termOf
 termOf-hash s = refl
 
+-- its bytes are 36
 pub termOf-room : (s : List ℕ) → length s ≤ maxTerm → length (termOf s .bytes) ≡ maxTerm
 unfolding termOf
 termOf-room s h = simp (length-append, length-folded, length-replicate) (omega arith)
 
+-- the folded bytes come first
 pub termOf-bytes : (s : List ℕ) → take (length s) (termOf s .bytes) ≡ folded s
 unfolding termOf
 termOf-bytes s = take-at (folded s) (replicate (maxTerm - length s) 0) (length s) (length-folded s)
 
--- the folded bytes stored at the front of nulls
+-- and nulls behind them
+pub termOf-rest : (s : List ℕ) → drop (length s) (termOf s .bytes) ≡ replicate (maxTerm - length s) 0
+unfolding termOf
+termOf-rest s = drop-at (folded s) (replicate (maxTerm - length s) 0) (length s) (length-folded s)
+
+-- so they are the folded bytes stored at the front of 36 nulls
 pub termOf-stored : (s : List ℕ) → length s ≤ maxTerm → sets (replicate maxTerm 0) 0 (folded s) ≡ termOf s .bytes
 unfolding termOf
 termOf-stored s h =
     let e : length (folded s) ≤ maxTerm = rw length-folded h in
     sets-front (folded s) maxTerm 0 e ∙ rw length-folded
-
-pub termOf-rest : (s : List ℕ) → drop (length s) (termOf s .bytes) ≡ replicate (maxTerm - length s) 0
-unfolding termOf
-termOf-rest s = drop-at (folded s) (replicate (maxTerm - length s) 0) (length s) (length-folded s)

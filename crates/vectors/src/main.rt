@@ -1,8 +1,8 @@
 // Answers the questions on standard input, a line each: codings, decodings, foldings and hashes by the proved functions. The stored questions and
 // the expected answers are written by the Rust reference (rust/reference), which shares no code with the functions under test.
 ghost use Prim.Native.Nat.{_<_};
-use io::number::print_decimal;
-use io::number::print_hex;
+use io::print_decimal;
+use io::print_hex;
 use libc::STDIN_FILENO;
 use libc::STDOUT_FILENO;
 use postings::Decoded;

@@ -1,48 +1,73 @@
+-- `frames::bad_term` meets its contract.
+-- Assumes nothing.
 use Rattle.frames.proofs.bad_term.Statement.{statement}
 use Rattle.frames.proofs.bad_term.Tie as tie
-use Rattle.frames.proofs.bad_term.Reads as reads
-use Rattle.frames.proofs.bad_term.Lts as lts
-use Rattle.frames.proofs.Cursor.past.Reads as past-reads
-use Rattle.frames.proofs.Cursor.term.Reads as term-reads
-use Rattle.terms.proofs.is_term.Reads as is-term-reads
+use native.Mathlib.Omega.{arith}
+use mathlib.Core.Path.{_≡_, refl, sym, ap, _∙_}
+use mathlib.Core.Bool.{false}
+use Prim.Native.Nat.{_-_}
+use lib.ListN.{length}
+use denote.Ref.{now}
+use borrow.Author.Tests.{not-true, not-false}
+use Rattle.terms.specs.Terms.{isTerm}
+use Rattle.frames.specs.Frames.{fields, passesEnd, badTerm}
+use Rattle.frames.proofs.Fields.{past-more, field-here, whole-on, field-term}
+use Rattle.frames.proofs.Conditions.{bad-end, bad-here, bad-on}
 
 abbrev Inv-loop : tie.InvT-loop
-Inv-loop frame from tail c₀ c = ?
+Inv-loop frame from tail c₀ c = (badTerm frame (fields tail frame from) ≡ badTerm frame (fields tail frame (c .at))) × (passesEnd tail frame (c .at) ≡ false)
 
 abbrev μ-loop : tie.MeasureT-loop
-μ-loop frame from tail c₀ c = ?
+μ-loop frame from tail c₀ c = length frame - c .at
 
--- src/lib.rt:147:5
 loop-holds : tie.Need-loop-holds Inv-loop μ-loop
-loop-holds c = ?
+loop-holds c = (refl, c .before .pre .1)
 
--- src/lib.rt:148:28
 term-requires : tie.Need-term-requires Inv-loop μ-loop
-term-requires c κs = ?
+term-requires c κs =
+    let l = c .before .before in
+    let s = l .before .before .args in
+    let f = now (s .frame) in
+    field-term (s .tail) f (l .loop .c .at) (field-here (s .tail) f (l .loop .c .at) (l .loop .inv .1) (c .if1 .taken))
 
--- src/lib.rt:148:13
 is-term-requires : tie.Need-is-term-requires Inv-loop μ-loop
-is-term-requires c κs = ?
+is-term-requires c κs = tt
 
--- src/lib.rt:149:13
 returns : tie.Need-returns Inv-loop μ-loop
-returns c = ?
+returns c =
+    let l = c .before .before .before .before .before in
+    let s = l .before .before .args in
+    let f = now (s .frame) in
+    sym (l .loop .inv .0 ∙ bad-here (s .tail) f (l .loop .c .at) (c .before .before .before .if1 .taken) (ap isTerm (sym (c .before .before .term .ensures)) ∙ sym (c .before .is-term .ensures) ∙ not-true _ (c .if2 .taken)))
 
--- src/lib.rt:151:9
 past-requires : tie.Need-past-requires Inv-loop μ-loop
-past-requires c κs = ?
+past-requires c κs =
+    let l = c .before .before .before .before .before in
+    let s = l .before .before .args in
+    let f = now (s .frame) in
+    (c .before .before .before .if1 .taken, l .before .before .pre .0)
 
--- src/lib.rt:147:5
 loop-less : tie.Need-loop-less Inv-loop μ-loop
-loop-less c = ?
+loop-less c =
+    let l = c .before .before .before .before .before .before in
+    let s = l .before .before .args in
+    let f = now (s .frame) in
+    omega (arith, past-more (s .tail) f (l .loop .c .at), c .past .ensures, c .before .before .before .before .if1 .taken)
 
--- src/lib.rt:147:5
 loop-again : tie.Need-loop-again Inv-loop μ-loop
-loop-again c = ?
+loop-again c =
+    let l = c .before .before .before .before .before .before in
+    let s = l .before .before .args in
+    let f = now (s .frame) in
+    let h = c .before .before .before .before .if1 .taken in
+    rw (c .past .ensures) (l .loop .inv .0 ∙ bad-on (s .tail) f (l .loop .c .at) h (ap isTerm (sym (c .before .before .before .term .ensures)) ∙ sym (c .before .before .is-term .ensures) ∙ not-false _ (c .before .if2 .left)), whole-on (s .tail) f (l .loop .c .at) (l .loop .inv .1) h)
 
--- src/lib.rt:142:1
 returns-2 : tie.Need-returns-2 Inv-loop μ-loop
-returns-2 c = ?
+returns-2 c =
+    let l = c .before .before in
+    let s = l .before .before .args in
+    let f = now (s .frame) in
+    sym (l .loop .inv .0 ∙ bad-end (s .tail) f (l .loop .c .at) (c .if1 .left))
 
 pub bad-term-spec : {M : Type 1} → statement M
 bad-term-spec =

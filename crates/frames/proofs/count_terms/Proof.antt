@@ -1,63 +1,52 @@
+-- `frames::count_terms` meets its contract.
+-- Assumes nothing.
 use Rattle.frames.proofs.count_terms.Statement.{statement}
 use Rattle.frames.proofs.count_terms.Tie as tie
-use Rattle.frames.proofs.count_terms.Reads as reads
-use Rattle.frames.proofs.count_terms.Lts as lts
-use Rattle.frames.proofs.wide.Reads as wide-reads
+use native.Mathlib.Omega.{arith}
+use denote.Ref.{now}
+use mathlib.Core.Path.{_≡_, sym, ap, _∙_}
+use Prim.Native.Nat.{ℕ, _+_, _-_, _≤_}
+use lib.ListN.{length}
+use Rattle.frames.specs.Frames.{fields, terms}
+use Rattle.frames.proofs.Fields.{past-more, fields-end, length-more}
 
 abbrev Inv-loop : tie.InvT-loop
-Inv-loop frame at₀ n₀ at n = ?
+Inv-loop frame at₀ n₀ at n = (n + length (fields 0 frame at) ≡ length (terms frame)) × (n ≤ at)
 
 abbrev μ-loop : tie.MeasureT-loop
-μ-loop frame at₀ n₀ at n = ?
+μ-loop frame at₀ n₀ at n = length frame - at
 
--- src/lib.rt:134:5
 loop-holds : tie.Need-loop-holds Inv-loop μ-loop
-loop-holds c = ?
+loop-holds c = omega arith
 
--- src/lib.rt:135:24
-shared-slice-read-wide : tie.Need-shared-slice-read-wide Inv-loop μ-loop
-shared-slice-read-wide c = ?
+past-field-requires : tie.Need-past-field-requires Inv-loop μ-loop
+past-field-requires c κs = omega arith
 
--- src/lib.rt:135:19
-wide-requires : tie.Need-wide-requires Inv-loop μ-loop
-wide-requires c κs = ?
-
--- src/lib.rt:135:15
-add-at : tie.Need-add-at Inv-loop μ-loop
-add-at c = ?
-
--- src/lib.rt:135:9
-add-at-2 : tie.Need-add-at-2 Inv-loop μ-loop
-add-at-2 c = ?
-
--- src/lib.rt:136:9
 add-n : tie.Need-add-n Inv-loop μ-loop
-add-n c = ?
+add-n c = omega arith
 
--- src/lib.rt:134:5
 loop-less : tie.Need-loop-less Inv-loop μ-loop
-loop-less c = ?
+loop-less c =
+    let l = c .before .before in
+    let f = now (l .before .before .args .frame) in
+    omega (arith, past-more 0 f (l .loop .at), c .past-field .ensures)
 
--- src/lib.rt:134:5
 loop-again : tie.Need-loop-again Inv-loop μ-loop
-loop-again c = ?
+loop-again c =
+    let l = c .before .before in
+    let f = now (l .before .before .args .frame) in
+    let h = c .before .loop-test .taken in
+    let e : length (fields 0 f (l .loop .at)) ≡ length (fields 0 f (c .past-field .result)) + 1 = length-more 0 f (l .loop .at) h ∙ ap (λ (at : ℕ). length (fields 0 f at) + 1) (sym (c .past-field .ensures)) in (
+      omega arith,
+      omega (arith, past-more 0 f (l .loop .at), c .past-field .ensures),
+    )
 
--- src/lib.rt:128:1
 returns : tie.Need-returns Inv-loop μ-loop
-returns c = ?
+returns c =
+    let f = now (c .before .before .before .args .frame) in
+    omega (arith, ap length (fields-end 0 f (c .before .loop .at) (c .loop-test .left)), c .before .loop .inv .0)
 
 pub count-terms-spec : {M : Type 1} → statement M
 count-terms-spec =
     tie.close
-    (tie.spec
-    Inv-loop
-    μ-loop
-    loop-holds
-    shared-slice-read-wide
-    wide-requires
-    add-at
-    add-at-2
-    add-n
-    loop-less
-    loop-again
-    returns)
+    (tie.spec Inv-loop μ-loop loop-holds past-field-requires add-n loop-less loop-again returns)

@@ -4,15 +4,15 @@ use mathlib.Core.Path.{_≡_, refl, sym, _∙_}
 use mathlib.Core.Logic.{⊎-elim}
 use mathlib.Core.List.{List}
 use Prim.Native.Nat.{ℕ, _-_}
-use borrow.Author.Tests.{ltb-true, ltb-false}
-use Rattle.basics.proofs.Lists.{all-drop}
-use Rattle.terms.proofs.Laws.{isTerm-short, isTerm-long, isTerm-allowed, fold-barred, fold-allowed}
 use native.Mathlib.Omega.{arith}
 use borrow.Author.Needs.{needs}
+use borrow.Author.Tests.{ltb-true, ltb-false}
 use lib.ListN.{length, getD, drop, drop-of-length-le}
 use Rattle.basics.specs.Lists.{all}
+use Rattle.basics.proofs.Lists.{all-drop}
 use Rattle.terms.specs.Terms.{allowed, foldByte, isTerm}
 use Rattle.terms.proofs.Folding.{table, rule}
+use Rattle.terms.proofs.Laws.{isTerm-short, isTerm-long, isTerm-allowed, fold-barred, fold-allowed}
 use Rattle.terms.proofs.is_term.Statement.{statement}
 use Rattle.terms.proofs.is_term.Tie as tie
 
@@ -25,7 +25,7 @@ abbrev μ-loop : tie.MeasureT-loop
 returns : tie.Need-returns Inv-loop μ-loop
 returns c =
     let s = c .before .args .s .now in
-    ⊎-elim (λ w. sym (isTerm-short s (omega arith))) (λ w. sym (isTerm-long s (ltb-true 36 (length s) (w .1 .taken)))) (c .if1 .came)
+    ⊎-elim (λ w. sym (isTerm-short s (omega arith))) (λ w. sym (isTerm-long s (omega (arith, ltb-true)))) (c .if1 .came)
 
 -- the bytes are a term where all are allowed, since their number is right
 module _ (c : tie.At-loop Inv-loop μ-loop) where
@@ -33,7 +33,7 @@ module _ (c : tie.At-loop Inv-loop μ-loop) where
   s = c .before .before .before .args .s .now
 
   left : isTerm s ≡ all allowed (drop (c .loop .i) s)
-  left = isTerm-allowed s (omega (arith, c .before .before .if1 .left)) (ltb-false 36 (length s) (c .before .if2 .left)) ∙ c .loop .inv
+  left = isTerm-allowed s (omega (arith, c .before .before .if1 .left)) (omega (arith, ltb-false)) ∙ c .loop .inv
 
 loop-holds : tie.Need-loop-holds Inv-loop μ-loop
 loop-holds c = refl

@@ -3,9 +3,9 @@
 use mathlib.Core.Path.{refl}
 use Prim.Native.Nat.{_^_, _<_}
 use native.Mathlib.Omega.{arith}
+use borrow.Author.Needs.{needs}
 use lib.Bits.{bitXor, xor-lt}
 use Rattle.terms.specs.Terms.{mixed}
-use borrow.Author.Needs.{needs}
 use Rattle.terms.proofs.mix.Statement.{statement}
 use Rattle.terms.proofs.mix.Tie as tie
 

@@ -1,52 +1,49 @@
+-- `frames::Cursor::term` meets its contract.
+-- Assumes nothing.
 use borrow.Author.Needs.{needs}
 use Rattle.frames.proofs.Cursor.term.Statement.{statement}
 use Rattle.frames.proofs.Cursor.term.Tie as tie
-use Rattle.frames.proofs.Cursor.term.Reads as reads
-use Rattle.frames.proofs.Cursor.term.Lts as lts
-use Rattle.frames.proofs.wide.Reads as wide-reads
+use native.Mathlib.Omega.{arith}
+use denote.Ref.{now}
+use mathlib.Core.Path.{_≡_, ap}
+use Prim.Native.Nat.{ℕ, _+_, _-_}
+use lib.ListN.{getD, take, drop}
+use Rattle.frames.specs.Frames.{termAt, pastField}
 
--- src/lib.rt:60:20
 add-from : tie.Need-add-from
 add-from c = search needs
 
--- src/lib.rt:61:36
-sub-wide : tie.Need-sub-wide
-sub-wide c = search needs
-
--- src/lib.rt:61:30
 shared-slice-read-wide : tie.Need-shared-slice-read-wide
 shared-slice-read-wide c = search needs
 
--- src/lib.rt:61:25
 wide-requires : tie.Need-wide-requires
 wide-requires c κs = search needs
 
--- src/lib.rt:61:18
 add-to : tie.Need-add-to
 add-to c = search needs
 
--- src/lib.rt:62:9
 sub-result : tie.Need-sub-result
 sub-result c = search needs
 
--- src/lib.rt:62:9
 part-result-start : tie.Need-part-result-start
 part-result-start c = search needs
 
--- src/lib.rt:62:9
 part-result-end : tie.Need-part-result-end
-part-result-end c = ?
+unfolding pastField
+part-result-end c = omega (arith, c .wide .ensures .0, c .before .before .before .pre .ends)
 
--- src/lib.rt:56:5
 returns : tie.Need-returns
-returns c = ?
+unfolding termAt
+returns c =
+    let s = c .before .before .before .before .args in
+    let e : s .self .at + 1 + c .before .wide .result - (s .self .at + 1) ≡ getD (now (s .frame)) (s .self .at) 0 = omega (arith, c .before .wide .ensures .0) in
+    ap (λ (n : ℕ). take n (drop (s .self .at + 1) (now (s .frame)))) e
 
 pub term-spec : {M : Type 1} → statement M
 term-spec =
     tie.close
     (tie.spec
     add-from
-    sub-wide
     shared-slice-read-wide
     wide-requires
     add-to

@@ -1,0 +1,39 @@
+-- Refusals 5 and 6, judged from one field to the next.
+-- Assumes nothing.
+use mathlib.Core.Path.{_≡_, ap}
+use mathlib.Core.Bool.{true, false, not}
+use mathlib.Core.List.{List}
+use Prim.Native.Nat.{ℕ, _≤_, _<_}
+use lib.Dec.{eqb}
+use lib.ListN.{length}
+use borrow.Author.Tests.{eq-eqb, ne-eqb}
+use Rattle.terms.specs.Terms.{isTerm}
+use Rattle.frames.specs.Frames.{termAt, countAt, pastField, fields, badTerm, zeroCount}
+use Rattle.frames.proofs.Fields.{any-end, any-here, any-on}
+
+module _ (tail : ℕ) (f : List ℕ) (at : ℕ) where
+  pub bad-end : length f ≤ at → badTerm f (fields tail f at) ≡ false
+  unfolding badTerm
+  bad-end h = any-end tail f (λ at. not (isTerm (termAt f at))) at h
+
+  module _ (h : at < length f) where
+    pub bad-here : isTerm (termAt f at) ≡ false → badTerm f (fields tail f at) ≡ true
+    unfolding badTerm
+    bad-here e = any-here tail f (λ at. not (isTerm (termAt f at))) at h (ap not e)
+
+    pub bad-on : isTerm (termAt f at) ≡ true → badTerm f (fields tail f at) ≡ badTerm f (fields tail f (pastField tail f at))
+    unfolding badTerm
+    bad-on e = any-on tail f (λ at. not (isTerm (termAt f at))) at h (ap not e)
+
+  pub zero-end : length f ≤ at → zeroCount f (fields tail f at) ≡ false
+  unfolding zeroCount
+  zero-end h = any-end tail f (λ at. eqb (countAt f at) 0) at h
+
+  module _ (h : at < length f) where
+    pub zero-here : countAt f at ≡ 0 → zeroCount f (fields tail f at) ≡ true
+    unfolding zeroCount
+    zero-here e = any-here tail f (λ at. eqb (countAt f at) 0) at h (eq-eqb (countAt f at) 0 e)
+
+    pub zero-on : (countAt f at ≡ 0 → ⊥) → zeroCount f (fields tail f at) ≡ zeroCount f (fields tail f (pastField tail f at))
+    unfolding zeroCount
+    zero-on n = any-on tail f (λ at. eqb (countAt f at) 0) at h (ne-eqb (countAt f at) 0 n)

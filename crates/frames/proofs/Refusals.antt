@@ -1,0 +1,45 @@
+-- Laws of a table of refusals.
+-- Assumes nothing.
+use mathlib.Core.Path.{_≡_, refl, sym, _∙_}
+use mathlib.Core.Bool.{Bool, true, false}
+use mathlib.Core.List.{List, [], _∷_, _++_}
+use Prim.Native.Nat.{_<_}
+use native.Mathlib.Omega.{arith}
+use Rattle.frames.specs.Refusals.{Row, firstOf}
+
+-- every row has a number above 0, so that 0 means that none holds
+pub data Numbered : List Row → Type 0 where
+  none : Numbered []
+  one : {r : Row} {rs : List Row} → 0 < r .number → Numbered rs → Numbered (r ∷ rs)
+
+pub first-empty : firstOf [] ≡ 0
+unfolding firstOf
+first-empty = refl
+
+-- a row that holds decides; one that does not is passed over
+pub first-holds : (r : Row) (rs : List Row) → r .holds ≡ true → firstOf (r ∷ rs) ≡ r .number
+unfolding firstOf
+first-holds r rs e = rw e
+
+pub first-passes : (r : Row) (rs : List Row) → r .holds ≡ false → firstOf (r ∷ rs) ≡ firstOf rs
+unfolding firstOf
+first-passes r rs e = rw e
+
+-- a first part in which a row holds decides
+some-case : (t : Bool) (r : Row) (a b : List Row) → r .holds ≡ t → 0 < firstOf (r ∷ a) → (0 < firstOf a → firstOf (a ++ b) ≡ firstOf a) → firstOf (r ∷ a ++ b) ≡ firstOf (r ∷ a)
+some-case true r a b e h ih = first-holds r (a ++ b) e ∙ sym (first-holds r a e)
+some-case false r a b e h ih = first-passes r (a ++ b) e ∙ ih (rw (first-passes r a e) at h) ∙ sym (first-passes r a e)
+
+pub first-some : (a b : List Row) → 0 < firstOf a → firstOf (a ++ b) ≡ firstOf a
+unfolding firstOf
+first-some [] b h = absurd (omega arith)
+first-some (r ∷ a) b h = some-case (r .holds) r a b refl h (first-some a b)
+
+-- a first part in which none holds is passed over
+none-case : (t : Bool) (r : Row) (a b : List Row) → r .holds ≡ t → 0 < r .number → firstOf (r ∷ a) ≡ 0 → (firstOf a ≡ 0 → firstOf (a ++ b) ≡ firstOf b) → firstOf (r ∷ a ++ b) ≡ firstOf b
+none-case true r a b e p z ih = absurd (omega (arith, first-holds r a e))
+none-case false r a b e p z ih = first-passes r (a ++ b) e ∙ ih (sym (first-passes r a e) ∙ z)
+
+pub first-none : {a : List Row} (b : List Row) → Numbered a → firstOf a ≡ 0 → firstOf (a ++ b) ≡ firstOf b
+first-none b none z = refl
+first-none b (one {r = r} {rs = a} p n) z = none-case (r .holds) r a b refl p z (first-none b n)
