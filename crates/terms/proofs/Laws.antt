@@ -1,6 +1,6 @@
 -- What the crates above use of terms, their folding and their hash.
 -- Assumes nothing.
-use mathlib.Core.Path.{_≡_, refl, sym, _∙_}
+use mathlib.Core.Path.{_≡_, refl, sym, ap, _∙_}
 use mathlib.Core.Bool.{Bool, true, false, _&&_}
 use mathlib.Core.List.{List, [], _∷_, _++_, map-append}
 use Prim.Native.Nat.{ℕ, _+_, _-_, _^_, _≤_, _<_}
@@ -9,11 +9,12 @@ use native.Mathlib.Omega.{arith}
 use borrow.Author.Tests.{leb-true, le-leb, lt-leb}
 use lib.Dec.{leb}
 use lib.ListN.{length, getD, take, drop, drop-of-length-le, replicate, length-map, List·getD-map, length-append, length-replicate}
-use lib.Seq.{drop-cons, take-at, drop-at, sets}
+use lib.Seq.{drop-cons, take-at, drop-at, sets, length-take-le}
 use Rattle.basics.specs.Lists.{all}
 use Rattle.basics.proofs.Lists.{and-left, and-right, and-false, all-at, map-take, map-drop}
 use Rattle.basics.proofs.Stores.{sets-front}
-use Rattle.terms.specs.Terms.{maxTerm, allowed, capital, foldByte, folded, isTerm, mixed, mixedAll, fnv1a, termOf}
+use Rattle.terms.specs.Terms.{maxTerm, allowed, capital, foldByte, folded, isTerm, mixed, mixedAll, fnv1a, termOf, nameIn}
+use Rattle.terms.specs.declared.Term.{Term}
 
 -- ---- a byte
 
@@ -224,3 +225,13 @@ unfolding termOf
 termOf-stored s h =
     let e : length (folded s) ≤ maxTerm = rw length-folded h in
     sets-front (folded s) maxTerm 0 e ∙ rw length-folded
+
+-- they are what it holds
+pub nameIn-termOf : (s : List ℕ) → nameIn (termOf s) ≡ folded s
+unfolding nameIn
+nameIn-termOf s = ap (λ (n : ℕ). take n (termOf s .bytes)) (termOf-length s) ∙ termOf-bytes s
+
+-- as many as its length says
+pub length-nameIn : (t : Term) → t .length ≤ length (t .bytes) → length (nameIn t) ≡ t .length
+unfolding nameIn
+length-nameIn t h = length-take-le (t .length) (t .bytes) h

@@ -4,7 +4,7 @@ use mathlib.Core.List.{List, [], _∷_, _++_, map}
 use mathlib.Core.Bool.{Bool, cond, _&&_}
 use lib.Bits.{bitXor}
 use lib.Dec.{leb}
-use lib.ListN.{length, replicate}
+use lib.ListN.{length, take, replicate}
 use Rattle.basics.specs.Lists.{all}
 use Rattle.terms.specs.declared.Term.{Term}
 
@@ -54,3 +54,7 @@ termOf s = record {
   length = length s;
   hash = fnv1a (folded s);
 }
+
+-- the folded bytes that it holds
+unfoldable pub nameIn : Term → List ℕ
+nameIn t = take (t .length) (t .bytes)
