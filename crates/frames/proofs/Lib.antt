@@ -2,4 +2,5 @@ pub mod Refusals
 pub mod Fields
 pub mod Heads
 pub mod Conditions
+pub mod Repeats
 pub mod Queries

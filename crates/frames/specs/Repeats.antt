@@ -1,17 +1,10 @@
 -- How repeated lines are found: lines whose folded terms share a bucket are chained, each to the one before it.
-use Prim.Native.Nat.{ℕ, zero, suc, _%_, _<_}
-use mathlib.Core.List.{List, [], _∷_, List·Memᴰ}
+use Prim.Native.Nat.{ℕ, zero, suc, _≤_, _<_}
+use mathlib.Core.List.{List, [], _∷_}
 use mathlib.Core.Bool.{cond}
 use lib.Dec.{eqb}
 use lib.ListN.{length, getD}
-use Rattle.terms.specs.Terms.{fnv1a}
-use Rattle.frames.specs.Frames.{countBytes, Field, foldedAt}
-
-abbrev pub buckets : ℕ
-buckets = 256
-
-unfoldable pub bucketAt : List ℕ → ℕ → ℕ
-bucketAt f at = fnv1a (foldedAt f at) % buckets
+use Rattle.frames.specs.Frames.{countBytes, Field}
 
 -- the chain from an offset on: each leads to an earlier one, 0 ends it
 unfoldable pub chainUpTo : ℕ → List ℕ → ℕ → List ℕ
@@ -23,8 +16,13 @@ chainUpTo (suc fuel) earlier at =
 unfoldable pub chain : List ℕ → ℕ → List ℕ
 chain earlier at = chainUpTo at earlier at
 
--- what following a chain needs: offsets fall, and a whole line stands at each
+-- the length of `earlier`: more than a frame has bytes
+abbrev pub slots : ℕ
+slots = 4100
+
+-- what following a chain needs: every offset of the frame has its slot, offsets fall, and a whole line stands at each but 0
 pub record Chained (f : List ℕ) (earlier : List ℕ) (last : ℕ) : Type 0 where
+  pub room : length f ≤ slots
   pub falls : (at : ℕ) → 0 < at → getD earlier at 0 < at
-  pub within : last < length earlier
-  pub whole : (at : ℕ) → List·Memᴰ at (chain earlier last) → Field countBytes f at
+  pub whole : (at : ℕ) → 0 < getD earlier at 0 → Field countBytes f (getD earlier at 0)
+  pub start : 0 < last → Field countBytes f last

@@ -204,10 +204,11 @@ fn repeated_term(frame: &[u8]) -> bool
     while c.at < frame.len() {
         let at = c.at;
         let bucket = (terms::fold(c.term(frame)).hash % 256) as usize;
-        if in_chain(frame, &earlier, last[bucket], c) {
+        let latest = last[bucket];
+        if in_chain(frame, &earlier, latest, c) {
             return true;
         }
-        earlier[at] = last[bucket];
+        earlier[at] = latest;
         last[bucket] = at as u16;
         c = c.past(frame, 4);
     }
