@@ -82,16 +82,16 @@ unfoldable pub onto : Posting → Reading → Reading
 onto p damaged = damaged
 onto p (whole ps) = whole (p ∷ ps)
 
--- the postings from a cursor on. Numbers ascend up to reports, so more steps than reports are never needed
-mutual
-  unfoldable pub follow : ℕ → List ℕ → ℕ → ℕ → Step → Reading
-  follow fuel a used reports (step.Posting n f c) = onto (record { number = n; count = f }) (run fuel a used reports c)
-  follow fuel a used reports step.End = whole []
-  follow fuel a used reports step.Damaged = damaged
+-- a posting and what is read behind it, or the end
+unfoldable pub follow : (Cursor → Reading) → Step → Reading
+follow rest (step.Posting n f c) = onto (record { number = n; count = f }) (rest c)
+follow rest step.End = whole []
+follow rest step.Damaged = damaged
 
-  unfoldable pub run : ℕ → List ℕ → ℕ → ℕ → Cursor → Reading
-  run zero a used reports c = damaged
-  run (suc fuel) a used reports c = follow fuel a used reports (stepAt a used reports c)
+-- the postings from a cursor on. Numbers ascend up to reports, so more steps than reports are never needed
+unfoldable pub run : ℕ → List ℕ → ℕ → ℕ → Cursor → Reading
+run zero a used reports c = damaged
+run (suc fuel) a used reports c = follow (run fuel a used reports) (stepAt a used reports c)
 
 -- before the first posting of head h
 unfoldable pub atHead : Head → ℕ → ℕ → Cursor

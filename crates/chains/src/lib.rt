@@ -119,7 +119,7 @@ fn next_block(arena: &[u8], used: u32, reports: u32, c: Cursor) -> Step
 }
 
 // One posting after another: the one at the cursor with the cursor past it, the chain's end, or damage.
-pub fn step(arena: &[u8], used: u32, reports: u32, c: Cursor) -> Step
+pub fn advance(arena: &[u8], used: u32, reports: u32, c: Cursor) -> Step
     requires { ⌜ Follows (now arena) used c × (4 ≤ c .end) ⌝ }
     ensures { λ r. ⌜ r ≡ stepAt (now (arena .entry)) used reports c ⌝ }
 {
@@ -179,7 +179,7 @@ pub fn is_sound(arena: &[u8], used: u32, reports: u32, h: u32) -> bool
     let mut c = at_head(d, used, h);
     let mut n: u32 = 0;
     loop {
-        match step(arena, used, reports, c) {
+        match advance(arena, used, reports, c) {
             Step::Damaged => {
                 return false;
             }
