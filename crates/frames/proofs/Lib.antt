@@ -4,3 +4,5 @@ pub mod Heads
 pub mod Conditions
 pub mod Repeats
 pub mod Queries
+pub mod Reports
+pub mod Laws

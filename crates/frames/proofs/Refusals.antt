@@ -5,6 +5,7 @@ use mathlib.Core.Bool.{Bool, true, false}
 use mathlib.Core.List.{List, [], _∷_, _++_}
 use Prim.Native.Nat.{_<_}
 use native.Mathlib.Omega.{arith}
+use Rattle.basics.proofs.Cases.{by-eq}
 use Rattle.frames.specs.Refusals.{Row, firstOf}
 
 -- every row has a number above 0, so that 0 means that none holds
@@ -43,3 +44,18 @@ none-case false r a b e p z ih = first-passes r (a ++ b) e ∙ ih (sym (first-pa
 pub first-none : {a : List Row} (b : List Row) → Numbered a → firstOf a ≡ 0 → firstOf (a ++ b) ≡ firstOf b
 first-none b none z = refl
 first-none b (one {r = r} {rs = a} p n) z = none-case (r .holds) r a b refl p z (first-none b n)
+
+-- where none holds, the first row does not
+zero-case : (t : Bool) (r : Row) (rs : List Row) → r .holds ≡ t → 0 < r .number → firstOf (r ∷ rs) ≡ 0 → (r .holds ≡ false) × (firstOf rs ≡ 0)
+zero-case true r rs e p z = absurd (omega (arith, first-holds r rs e))
+zero-case false r rs e p z = (e, sym (first-passes r rs e) ∙ z)
+
+pub first-zero : (r : Row) (rs : List Row) → 0 < r .number → firstOf (r ∷ rs) ≡ 0 → (r .holds ≡ false) × (firstOf rs ≡ 0)
+first-zero r rs p z = zero-case (r .holds) r rs refl p z
+
+-- and neither does any of a first part or of a second
+append-case : {a : List Row} (b : List Row) → Numbered a → firstOf (a ++ b) ≡ 0 → firstOf a ≡ 0
+append-case {a} b n z = by-eq (firstOf a) 0 (λ e. e) (λ p. absurd (p (sym (first-some a b (omega arith)) ∙ z)))
+
+pub both-zero : {a : List Row} (b : List Row) → Numbered a → firstOf (a ++ b) ≡ 0 → (firstOf a ≡ 0) × (firstOf b ≡ 0)
+both-zero {a} b n z = let e = append-case b n z in (e, sym (first-none b n e) ∙ z)
