@@ -2,7 +2,7 @@
 -- Assumes nothing.
 use Prim.Native.Nat.{ℕ, zero, suc, _+_, _-_, _<_}
 use mathlib.Core.Path.{_≡_, refl}
-use mathlib.Core.Bool.{Bool, true, false, _&&_}
+use mathlib.Core.Bool.{Bool, true, false, _&&_, _||_}
 use mathlib.Core.List.{List, [], _∷_, map}
 use native.Mathlib.Omega.{arith}
 use native.Mathlib.Numerals.{add-one}
@@ -62,6 +62,16 @@ pub drop-replicate : {A : Type 0} (i n : ℕ) (a : A) → drop i (replicate n a)
 drop-replicate zero n a = rw sub-zero
 drop-replicate (suc i) zero a = rw zero-sub
 drop-replicate (suc i) (suc n) a = rw suc-sub-suc (drop-replicate i n a)
+
+-- ---- disjunctions
+
+pub or-left : (a b : Bool) → a || b ≡ false → a ≡ false
+or-left true b e = e
+or-left false b e = refl
+
+pub or-right : (a b : Bool) → a || b ≡ false → b ≡ false
+or-right true b e = let z : _≡_ {A = ℕ} 0 1 = cc in absurd (omega arith)
+or-right false b e = e
 
 -- ---- the same list
 

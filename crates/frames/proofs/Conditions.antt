@@ -1,9 +1,10 @@
 -- Refusals 5 and 6, judged from one field to the next.
 -- Assumes nothing.
-use mathlib.Core.Path.{_≡_, ap}
-use mathlib.Core.Bool.{true, false, not}
+use mathlib.Core.Path.{_≡_, refl, sym, ap, _∙_}
+use mathlib.Core.Bool.{Bool, true, false, not}
 use mathlib.Core.List.{List}
 use Prim.Native.Nat.{ℕ, _≤_, _<_}
+use native.Mathlib.Omega.{arith}
 use lib.Dec.{eqb}
 use lib.ListN.{length}
 use borrow.Author.Tests.{eq-eqb, ne-eqb}
@@ -24,6 +25,18 @@ module _ (tail : ℕ) (f : List ℕ) (at : ℕ) where
     pub bad-on : isTerm (termAt f at) ≡ true → badTerm f (fields tail f at) ≡ badTerm f (fields tail f (pastField tail f at))
     unfolding badTerm
     bad-on e = any-on tail f (λ at. not (isTerm (termAt f at))) at h (ap not e)
+
+  -- where no field is bad, the one here is a term, and none is bad from the next on
+  module _ (h : at < length f) (g : badTerm f (fields tail f at) ≡ false) where
+    pub good-here : isTerm (termAt f at) ≡ true
+    good-here = go (isTerm (termAt f at)) refl
+      where
+        go : (b : Bool) → isTerm (termAt f at) ≡ b → isTerm (termAt f at) ≡ true
+        go true e = e
+        go false e = let z : _≡_ {A = ℕ} 0 1 = cc (bad-here h e) in absurd (omega arith)
+
+    pub good-on : badTerm f (fields tail f (pastField tail f at)) ≡ false
+    good-on = sym (bad-on h good-here) ∙ g
 
   pub zero-end : length f ≤ at → zeroCount f (fields tail f at) ≡ false
   unfolding zeroCount

@@ -1,13 +1,19 @@
 -- What the crates above use of frames: what a frame that is not refused holds, and how its lines and terms are read one after another.
 -- Assumes nothing.
-use mathlib.Core.Path.{_≡_, refl, sym, ap, _∙_}
-use mathlib.Core.Bool.{Bool, true, false, not}
+use mathlib.Core.Path.{_≡_, refl, sym, ap}
+use mathlib.Core.Bool.{false}
 use mathlib.Core.List.{List, [], _∷_, map}
-use Prim.Native.Nat.{ℕ, _+_, _≤_, _<_}
+use Prim.Native.Nat.{ℕ, zero, suc, _+_, _≤_, _<_}
 use native.Mathlib.Omega.{arith}
+use lib.Dec.{ltb}
 use lib.ListN.{length}
-use Rattle.frames.specs.Refusals.{_if_, firstOf}
-use Rattle.frames.specs.Frames.{maxBody, countBytes, firstLine, firstTerm, pastField, fields, lines, terms, passesEnd, wrongTerms, badTerm, zeroCount, repeatedTerm, headRows, reportRows, queryRows, reportRefusal, queryRefusal, Line, lineAt, foldedAt, reportLines, queryTerms}
+use borrow.Author.Tests.{ltb-false}
+use Rattle.basics.proofs.Lists.{or-left, or-right}
+use Rattle.frames.specs.declared.Cursor.{Cursor}
+use Rattle.frames.specs.declared.Report.the-variants as report
+use Rattle.frames.specs.declared.Query.the-variants as query
+use Rattle.frames.specs.Refusals.{_if_}
+use Rattle.frames.specs.Frames.{maxBody, countBytes, firstLine, firstTerm, pastField, fields, lines, terms, passesEnd, wrongTerms, badTerm, zeroCount, repeatedTerm, reportRows, queryRows, reportRefusal, queryRefusal, lineAt, foldedAt, reportAs, reportFrame, queryStart, queryAs, queryFrame}
 use Rattle.frames.proofs.Refusals.{first-zero, both-zero}
 use Rattle.frames.proofs.Heads.{head-numbered, headed, Headed}
 use Rattle.frames.proofs.Fields.{fields-end, fields-more}
@@ -44,6 +50,52 @@ sound-query k most f z =
     let r₄ = first-zero (4 if wrongTerms most f) _ (omega arith) (h .1) in
     let r₅ = first-zero (5 if badTerm f (terms f)) [] (omega arith) (r₄ .1) in
     record { right = r₄ .0; good = r₅ .0 }
+
+-- where a check hands out a cursor, nothing was refused and reading starts at the first line or term
+lines-case : (n : ℕ) (c : Cursor) → reportAs n ≡ report.Lines c → (n ≡ 0) × (c .at ≡ firstLine)
+lines-case zero c e =
+    let start : Cursor = record { at = firstLine } in
+    let q : start ≡ c = cc in
+    (refl, sym (ap (λ (x : Cursor). x .at) q))
+lines-case (suc n) c e = let z : _≡_ {A = ℕ} 0 1 = cc in absurd (omega arith)
+
+pub lines-sound : (f : List ℕ) (c : Cursor) → reportFrame f ≡ report.Lines c → (reportRefusal f ≡ 0) × (c .at ≡ firstLine)
+unfolding reportFrame
+lines-sound f c e = lines-case (reportRefusal f) c e
+
+terms-case : (n : ℕ) (f : List ℕ) (start : ℕ) (c : Cursor) → queryAs n f ≡ query.Terms start c → (n ≡ 0) × (start ≡ queryStart f) × (c .at ≡ firstTerm)
+terms-case zero f start c e =
+    let first : Cursor = record { at = firstTerm } in
+    let p : queryStart f ≡ start = cc in
+    let q : first ≡ c = cc in
+    (refl, sym p, sym (ap (λ (x : Cursor). x .at) q))
+terms-case (suc n) f start c e = let z : _≡_ {A = ℕ} 0 1 = cc in absurd (omega arith)
+
+pub terms-sound : (k most : ℕ) (f : List ℕ) (start : ℕ) (c : Cursor) → queryFrame k most f ≡ query.Terms start c
+    → (queryRefusal k most f ≡ 0) × (start ≡ queryStart f) × (c .at ≡ firstTerm)
+unfolding queryFrame
+terms-sound k most f start c e = terms-case (queryRefusal k most f) f start c e
+
+-- a sound query's terms do not pass the end
+pub query-uncut : (most : ℕ) (f : List ℕ) → wrongTerms most f ≡ false → (firstTerm ≤ length f) × (passesEnd 0 f firstTerm ≡ false)
+unfolding wrongTerms
+query-uncut most f e =
+    let b = or-right (ltb (length f) firstTerm) _ e in
+    (ltb-false (length f) firstTerm (or-left (ltb (length f) firstTerm) _ e), or-left (passesEnd 0 f firstTerm) _ b)
+
+-- so whole fields that are terms stand from the cursor on
+pub lines-ready : (f : List ℕ) (c : Cursor) → reportFrame f ≡ report.Lines c → (passesEnd countBytes f (c .at) ≡ false) × (badTerm f (fields countBytes f (c .at)) ≡ false)
+lines-ready f c e =
+    let s = lines-sound f c e in
+    let r : SoundReport f = sound-report f (s .0) in
+    rw (s .1) (r .uncut, r .good)
+
+pub terms-ready : (k most : ℕ) (f : List ℕ) (start : ℕ) (c : Cursor) → queryFrame k most f ≡ query.Terms start c
+    → (passesEnd 0 f (c .at) ≡ false) × (badTerm f (fields 0 f (c .at)) ≡ false)
+terms-ready k most f start c e =
+    let s = terms-sound k most f start c e in
+    let q : SoundQuery most f = sound-query k most f (s .0) in
+    rw (s .2) (query-uncut most f (q .right) .1, q .good)
 
 -- ---- one line after another
 

@@ -1,6 +1,6 @@
 -- Laws of the chains by which repeated lines are found, and what is known of them from line to line.
 -- Assumes nothing.
-use mathlib.Core.Path.{_≡_, refl, sym, ap, _∙_}
+use mathlib.Core.Path.{_≡_, refl, ap, _∙_}
 use mathlib.Core.Bool.{Bool, true, false, _||_}
 use mathlib.Core.List.{List, [], _∷_, map}
 use Prim.Native.Nat.{ℕ, zero, suc, _%_, _≤_, _<_}
@@ -11,7 +11,7 @@ use borrow.Author.Tests.{eq-eqb, ne-eqb}
 use Rattle.basics.specs.Lists.{any, same}
 use Rattle.basics.proofs.Cases.{by-eq}
 use Rattle.basics.proofs.Lists.{ne-same}
-use Rattle.terms.specs.Terms.{maxTerm, isTerm, fnv1a}
+use Rattle.terms.specs.Terms.{maxTerm, fnv1a}
 use Rattle.terms.proofs.Laws.{term-length}
 use Rattle.frames.specs.Frames.{
   countBytes,
@@ -29,7 +29,7 @@ use Rattle.frames.specs.Frames.{
 }
 use Rattle.frames.specs.Repeats.{chainUpTo, chain, slots, Chained}
 use Rattle.frames.proofs.Fields.{past-more, fields-end, fields-more, field-here, whole-on}
-use Rattle.frames.proofs.Conditions.{bad-here, bad-on}
+use Rattle.frames.proofs.Conditions.{good-here, good-on}
 
 -- ---- following a chain
 
@@ -158,15 +158,8 @@ module _ {f last earlier : List ℕ} {at : ℕ} (p : Passed f last earlier at) w
     pub passed-line : Field countBytes f at
     passed-line = field-here countBytes f at (p .whole) h
 
-    is-term : isTerm (termAt f at) ≡ true
-    is-term = go (isTerm (termAt f at)) refl
-      where
-        go : (b : Bool) → isTerm (termAt f at) ≡ b → isTerm (termAt f at) ≡ true
-        go true e = e
-        go false e = let z : _≡_ {A = ℕ} 0 1 = cc (p .good, bad-here countBytes f at h e) in absurd (omega arith)
-
     pub passed-term : length (termAt f at) ≤ maxTerm
-    passed-term = term-length (termAt f at) is-term .1
+    passed-term = term-length (termAt f at) (good-here countBytes f at h (p .good)) .1
 
     -- its folded term, the chain where that is looked for, and the arrays once the line is put before that chain
     abbrev term : List ℕ
@@ -227,7 +220,7 @@ module _ {f last earlier : List ℕ} {at : ℕ} (p : Passed f last earlier at) w
       seen = term ∷ p .seen;
       left = repeats-here ∙ rw e;
       whole = whole-on countBytes f at (p .whole) h;
-      good = sym (bad-on countBytes f at h is-term) ∙ p .good;
+      good = good-on countBytes f at h (p .good);
       chained = set-each (λ b x. Chained f earlier′ x) last (bucket term) at (chained-from at (λ l. passed-line)) (λ b. chained-from (getD last b 0) (p .chained b .start));
       behind = set-each (λ b x. x < pastField countBytes f at) last (bucket term) at (past-more countBytes f at) (λ b. omega (arith, p .behind b, past-more countBytes f at));
       held = λ t. by-eq (bucket t) (bucket term) (held-own t) (held-other t);

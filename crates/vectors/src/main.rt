@@ -1,6 +1,14 @@
 // Answers the questions on standard input, a line each: codings, decodings, foldings and hashes by the proved functions. The stored questions and
 // the expected answers are written by the Rust reference (rust/reference), which shares no code with the functions under test.
-ghost use Prim.Native.Nat.{_<_};
+ghost use mathlib.Core.Path.{_≡_};
+ghost use mathlib.Core.Bool.{false};
+ghost use Prim.Native.Nat.{_<_, _≤_};
+ghost use lib.ListN.{length};
+ghost use Rattle.terms.specs.Terms.{maxTerm};
+ghost use Rattle.frames.specs.Frames.{countBytes, fields, passesEnd, badTerm};
+use frames::Cursor;
+use frames::Query;
+use frames::Report;
 use io::print_decimal;
 use io::print_hex;
 use libc::STDIN_FILENO;
@@ -89,11 +97,90 @@ fn fold(payload: &[u8]) {
         print(b" refused");
         return;
     }
-    let t = terms::fold(payload);
+    print_folded(payload);
+    print_hash(terms::fold(payload).hash);
+}
+
+// The folded term in hexadecimal.
+fn print_folded(term: &[u8])
+    requires { ⌜ length (now term) ≤ maxTerm ⌝ }
+{
+    let t = terms::fold(term);
     let bytes = t.bytes;
     let n = t.length;
     print_bytes(&bytes[..n]);
-    print_hash(t.hash);
+}
+
+// The folded terms of a sound frame's fields, with their counts where they have one.
+fn print_fields(frame: &[u8], from: usize, tail: usize)
+    requires { ⌜ (tail ≤ countBytes) × (passesEnd tail (now frame) from ≡ false) × (badTerm (now frame) (fields tail (now frame) from) ≡ false) ⌝ }
+{
+    let mut c = Cursor { at: from };
+    while c.at < frame.len() {
+        print_folded(c.term(frame));
+        if tail == 4 {
+            print(b":");
+            print_decimal(STDOUT_FILENO, c.count(frame) as u64);
+        }
+        c = c.past(frame, tail);
+    }
+}
+
+fn print_refusal(n: u8) {
+    print(b" refused");
+    print_number(n as u64);
+}
+
+fn report_frame(frame: &[u8]) {
+    match frames::check_report(frame) {
+        Report::Refused(n) => print_refusal(n),
+        Report::Lines(first) => {
+            print(b" lines");
+            print_fields(frame, first.at, 4);
+        }
+    }
+}
+
+// The start and the terms of a sound query.
+fn print_query(frame: &[u8], start: u32, first: Cursor)
+    requires { ⌜ (passesEnd 0 (now frame) (first .at) ≡ false) × (badTerm (now frame) (fields 0 (now frame) (first .at)) ≡ false) ⌝ }
+{
+    print(b" start");
+    print_number(start as u64);
+    print(b" terms");
+    print_fields(frame, first.at, 0);
+}
+
+fn one_frame(frame: &[u8]) {
+    match frames::check_one(frame) {
+        Query::Refused(n) => print_refusal(n),
+        Query::Terms { start, terms } => print_query(frame, start, terms),
+    }
+}
+
+fn all_frame(frame: &[u8]) {
+    match frames::check_all(frame) {
+        Query::Refused(n) => print_refusal(n),
+        Query::Terms { start, terms } => print_query(frame, start, terms),
+    }
+}
+
+// Sort 5: a frame as the call of its kind reads it.
+fn frame(payload: &[u8]) {
+    if payload.len() == 0 {
+        return;
+    }
+    let kind = payload[0];
+    let bytes = &payload[1..];
+    print(b"frame");
+    print_number(wide(kind));
+    print_bytes(bytes);
+    match kind {
+        1 => report_frame(bytes),
+        2 => one_frame(bytes),
+        3 => all_frame(bytes),
+        _ => print(b" unknown"),
+    }
 }
 
 fn answer(sort: u8, payload: &[u8]) {
@@ -102,6 +189,7 @@ fn answer(sort: u8, payload: &[u8]) {
         2 => code(payload),
         3 => decode(payload),
         4 => fold(payload),
+        5 => frame(payload),
         _ => print(b"unknown"),
     }
     print(b"\n");

@@ -8,6 +8,7 @@
 //! |---|---|
 //! | [`postings`] | "Coding a posting" |
 //! | [`terms`] | the rules on terms in "Frames", and the hash of "Finding a term" |
+//! | [`frames`] | "Frames", and the rows Frame and Terms of "Where each refusal is checked" |
 //! | [`vectors`] | none: questions for both implementations, and answers |
 //!
 //! The program `write-vectors` stores the questions and answers in two files, `stdin` and `stdout`.
@@ -15,6 +16,7 @@
 #![forbid(unsafe_code)]
 #![warn(missing_docs)]
 
+pub mod frames;
 pub mod postings;
 pub mod terms;
 pub mod vectors;

@@ -1,19 +1,13 @@
+-- `frames::check_report` meets its contract.
+-- Assumes nothing.
 use borrow.Author.Needs.{needs}
 use Rattle.frames.proofs.check_report.Statement.{statement}
 use Rattle.frames.proofs.check_report.Tie as tie
-use Rattle.frames.proofs.check_report.Reads as reads
-use Rattle.frames.proofs.check_report.Lts as lts
-use Rattle.frames.proofs.bad_term.Reads as bad-term-reads
-use Rattle.frames.proofs.check_head.Reads as check-head-reads
-use Rattle.frames.proofs.passes_end.Reads as passes-end-reads
-use Rattle.frames.proofs.repeated_term.Reads as repeated-term-reads
-use Rattle.frames.proofs.zero_count.Reads as zero-count-reads
 use native.Mathlib.Omega.{arith}
 use mathlib.Core.Path.{_≡_, sym, ap, _∙_}
-use mathlib.Core.Bool.{true, false}
+use mathlib.Core.Bool.{false}
 use mathlib.Core.List.{List}
-use Prim.Native.Nat.{ℕ, _≤_, _<_}
-use lib.ListN.{length}
+use Prim.Native.Nat.{ℕ}
 use denote.Ref.{now}
 use Rattle.frames.specs.Frames.{countBytes, firstLine, lines, passesEnd, badTerm, zeroCount, headRows}
 use Rattle.frames.specs.Refusals.{firstOf}
