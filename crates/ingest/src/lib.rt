@@ -1,10 +1,20 @@
 // Taking a report (document 01, "Taking a report"): all lines are judged before a byte is written.
 ghost use mathlib.Core.Path.{_≡_};
-ghost use mathlib.Core.Bool.{false};
+ghost use mathlib.Core.Bool.{true, false, _||_};
 ghost use Prim.Native.Nat.{_+_, _≤_, _<_};
 ghost use lib.ListN.{length};
-ghost use Rattle.ingest.specs.Report.{reportCall};
+ghost use Rattle.terms.specs.Terms.{maxTerm, termOf};
+ghost use Rattle.frames.specs.Frames.{maxBody, reportRefusal, reportLines, lineAt};
+ghost use Rattle.frames.specs.Refusals.{firstOf};
+ghost use Rattle.blocks.specs.Fields.{maxWord, blockSize, place, capacity};
+ghost use Rattle.lookup.specs.Lookup.{search, slots};
+ghost use Rattle.counters.specs.Counters.{wrongCounters};
+ghost use Rattle.ingest.specs.Report.{memory, lineOf, wroteAs, damagedHead, placeAt, placed, isDamaged, termsFor, blocksFor, planRows, linesPlan, written, writeLines, callRefusal, reportCall, takenOf};
+ghost use Rattle.ingest.specs.Needs.{Room, Held, Writable};
+use blocks::Head;
 use counters::Counters;
+use frames::Cursor;
+use frames::Report;
 use lookup::Found;
 use terms::Term;
 
@@ -33,4 +43,249 @@ pub struct Plan {
     pub damaged: bool,
     pub terms: u32,
     pub blocks: u32,
+}
+
+// The counters after some lines, and whether writing stopped at one.
+pub struct Written {
+    pub stopped: bool,
+    pub counters: Counters,
+}
+
+// ---- where a line goes
+
+// Damage of a known term when a report is taken.
+fn is_damaged(arena: &[u8], k: Counters, h: u32, d: Head) -> bool
+    requires { ⌜ Room (now arena) k × (h < k .used) × (d .length < 256) ⌝ }
+    ensures { λ r. ⌜ r ≡ damagedHead (now (arena .entry)) k h d ⌝ }
+{
+    if chains::is_bad_head(d, k.used, h) {
+        return true;
+    }
+    if k.reports < d.last {
+        return true;
+    }
+    if k.reports < blocks::link_of(arena, d.tail) {
+        return true;
+    }
+    k.reports < d.postings
+}
+
+fn place_at(arena: &[u8], k: Counters, count: u32, h: u32) -> Place
+    requires { ⌜ Room (now arena) k × (h < k .used) ⌝ }
+    ensures { λ r. ⌜ r ≡ placeAt (now (arena .entry)) k count h ⌝ }
+{
+    let d = blocks::head_of(arena, h);
+    if is_damaged(arena, k, h, d) {
+        return Place::Damaged;
+    }
+    if blocks::fits_in(d, k.reports + 1, count) {
+        return Place::Stays(h);
+    }
+    Place::Spills(h)
+}
+
+fn place_of(arena: &[u8], table: &[u32], k: Counters, term: Term, count: u32) -> Place
+    requires { ⌜ Room (now arena) k × (term .length ≤ maxTerm) ⌝ }
+    ensures { λ r. ⌜ r ≡ placed (now (arena .entry)) k count (search (now (arena .entry)) (k .used) (now (table .entry)) term) ⌝ }
+{
+    match lookup::find(arena, k.used, table, term) {
+        Found::Damaged => Place::Damaged,
+        Found::Unknown(s) => Place::New(s),
+        Found::At(h) => place_at(arena, k, count, h),
+    }
+}
+
+// ---- what the lines need
+
+fn with_place(plan: Plan, p: Place) -> Plan
+    requires { ⌜ (plan .terms < maxWord) × (plan .blocks < maxWord) ⌝ }
+    ensures { λ r. ⌜ (r .damaged ≡ plan .damaged || isDamaged p) × (r .terms ≡ plan .terms + termsFor p) × (r .blocks ≡ plan .blocks + blocksFor p) ⌝ }
+{
+    match p {
+        Place::Damaged => Plan {
+            damaged: true,
+            terms: plan.terms,
+            blocks: plan.blocks,
+        },
+        Place::New(_) => Plan {
+            damaged: plan.damaged,
+            terms: plan.terms + 1,
+            blocks: plan.blocks + 1,
+        },
+        Place::Stays(_) => plan,
+        Place::Spills(_) => Plan {
+            damaged: plan.damaged,
+            terms: plan.terms,
+            blocks: plan.blocks + 1,
+        },
+    }
+}
+
+fn plan_lines(arena: &[u8], table: &[u32], k: Counters, frame: &[u8]) -> Plan
+    requires { ⌜ Room (now arena) k × (reportRefusal (now frame) ≡ 0) ⌝ }
+    ensures { λ r. ⌜ r ≡ linesPlan (memory (now (arena .entry)) (now (table .entry)) k) (reportLines (now (frame .entry))) ⌝ }
+{
+    let mut plan = Plan {
+        damaged: false,
+        terms: 0,
+        blocks: 0,
+    };
+    let mut c = Cursor { at: 4 };
+    while c.at < frame.len() {
+        let p = place_of(arena, table, k, terms::fold(c.term(frame)), c.count(frame));
+        plan = with_place(plan, p);
+        c = c.past(frame, 4);
+    }
+    plan
+}
+
+// Refusals 10 to 12 for what some lines need; 0 for none.
+fn judge(arena: &[u8], table: &[u32], k: Counters, plan: Plan) -> u8
+    requires { ⌜ Held (now arena) (now table) k × (plan .terms ≤ maxBody) ⌝ }
+    ensures { λ r. ⌜ r ≡ firstOf (planRows (memory (now (arena .entry)) (now (table .entry)) k) plan) ⌝ }
+{
+    if plan.damaged {
+        return 10;
+    }
+    if counters::max_terms(table) < k.terms + plan.terms {
+        return 11;
+    }
+    if blocks::capacity_of(arena) - k.used < plan.blocks {
+        return 12;
+    }
+    0
+}
+
+// ---- writing
+
+// One line at its place.
+fn write_line(
+    arena: &mut [u8],
+    table: &mut [u32],
+    k: Counters,
+    term: Term,
+    count: u32,
+    p: Place,
+) -> Counters
+    requires { ⌜ Writable (now arena) (now table) k term count p ⌝ }
+    ensures { λ r. ⌜ memory (now (arena .exit)) (now (table .exit)) r ≡ written (memory (now (arena .entry)) (now (table .entry)) k) (k .reports + 1) (lineOf term count) p ⌝ }
+{
+    let number = k.reports + 1;
+    let used = k.used;
+    match p {
+        Place::Damaged => k,
+        Place::Stays(h) => {
+            let d = blocks::head_of(arena, h);
+            blocks::add_to(arena, h, d, number, count);
+            k
+        }
+        Place::Spills(h) => {
+            let d = blocks::head_of(arena, h);
+            blocks::join_to(arena, h, d, used, number, count);
+            Counters {
+                used: used + 1,
+                terms: k.terms,
+                reports: k.reports,
+            }
+        }
+        Place::New(s) => {
+            blocks::open_head(arena, used, term, number, count);
+            lookup::enter_at(table, s, used);
+            Counters {
+                used: used + 1,
+                terms: k.terms + 1,
+                reports: k.reports,
+            }
+        }
+    }
+}
+
+// The lines in frame order, each judged afresh when its turn comes.
+fn write_lines(arena: &mut [u8], table: &mut [u32], k: Counters, frame: &[u8]) -> Written
+    requires { ⌜ Held (now arena) (now table) k × (reportRefusal (now frame) ≡ 0) ⌝ }
+    ensures { λ r. ⌜ wroteAs (memory (now (arena .exit)) (now (table .exit)) (r .counters)) (r .stopped) ≡ writeLines (memory (now (arena .entry)) (now (table .entry)) k) (k .reports + 1) (reportLines (now (frame .entry))) ⌝ }
+{
+    let mut left = k;
+    let mut c = Cursor { at: 4 };
+    while c.at < frame.len() {
+        let term = terms::fold(c.term(frame));
+        let count = c.count(frame);
+        let p = place_of(arena, table, left, term, count);
+        let plan = with_place(
+            Plan {
+                damaged: false,
+                terms: 0,
+                blocks: 0,
+            },
+            p,
+        );
+        if judge(arena, table, left, plan) != 0 {
+            return Written {
+                stopped: true,
+                counters: left,
+            };
+        }
+        left = write_line(arena, table, left, term, count, p);
+        c = c.past(frame, 4);
+    }
+    Written {
+        stopped: false,
+        counters: left,
+    }
+}
+
+// ---- the call
+
+fn refused(refusal: u8, k: Counters) -> Taken
+    ensures { λ r. ⌜ (r .answer .refusal ≡ refusal) × (r .answer .number ≡ 0) × (r .counters ≡ k) ⌝ }
+{
+    Taken {
+        answer: ReportAnswer { refusal, number: 0 },
+        counters: k,
+    }
+}
+
+// Refusals 8 to 12 of a sound frame; 0 for none.
+fn judge_report(arena: &[u8], table: &[u32], k: Counters, frame: &[u8]) -> u8
+    requires { ⌜ reportRefusal (now frame) ≡ 0 ⌝ }
+    ensures { λ r. ⌜ r ≡ callRefusal (memory (now (arena .entry)) (now (table .entry)) k) (now (frame .entry)) ⌝ }
+{
+    if counters::are_wrong(arena, table, k) {
+        return 8;
+    }
+    if k.reports == 4294967295 {
+        return 9;
+    }
+    judge(arena, table, k, plan_lines(arena, table, k, frame))
+}
+
+// Takes a report: the answer, and the counters that the call leaves.
+pub fn take_report(arena: &mut [u8], table: &mut [u32], k: Counters, frame: &[u8]) -> Taken
+    ensures { λ r. ⌜ (r ≡ takenOf (reportCall (memory (now (arena .entry)) (now (table .entry)) k) (now (frame .entry))))
+        × (now (arena .exit) ≡ reportCall (memory (now (arena .entry)) (now (table .entry)) k) (now (frame .entry)) .left .arena)
+        × (now (table .exit) ≡ reportCall (memory (now (arena .entry)) (now (table .entry)) k) (now (frame .entry)) .left .table) ⌝ }
+{
+    match frames::check_report(frame) {
+        Report::Refused(n) => refused(n, k),
+        Report::Lines(_) => {
+            let refusal = judge_report(arena, table, k, frame);
+            if refusal != 0 {
+                return refused(refusal, k);
+            }
+            let w = write_lines(arena, table, k, frame);
+            let left = w.counters;
+            if w.stopped {
+                return refused(13, left);
+            }
+            let number = k.reports + 1;
+            Taken {
+                answer: ReportAnswer { refusal: 0, number },
+                counters: Counters {
+                    used: left.used,
+                    terms: left.terms,
+                    reports: number,
+                },
+            }
+        }
+    }
 }

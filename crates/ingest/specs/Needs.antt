@@ -1,0 +1,30 @@
+-- What the functions of this crate need of the memory that they are lent, once refusals 8 and 9 are past.
+use Prim.Native.Nat.{ℕ, _≤_, _<_}
+use mathlib.Core.Path.{_≡_}
+use mathlib.Core.List.{List, [], _∷_}
+use Rattle.terms.specs.Terms.{maxTerm}
+use Rattle.terms.specs.declared.Term.{Term}
+use Rattle.frames.specs.Refusals.{firstOf}
+use Rattle.lookup.specs.Lookup.{search}
+use Rattle.blocks.specs.Fields.{maxWord, capacity}
+use Rattle.counters.specs.declared.Counters.{Counters}
+use Rattle.counters.specs.Counters.{maxTerms}
+use Rattle.ingest.specs.declared.Place.{Place}
+use Rattle.ingest.specs.Report.{memory, placed, planOf, planRows}
+
+-- the used blocks lie in the arena, and another report can be numbered
+pub record Room (a : List ℕ) (k : Counters) : Type 0 where
+  pub inside : k .used ≤ capacity a
+  pub numbered : k .reports < maxWord
+
+-- and the terms held are no more than the table allows
+pub record Held (a table : List ℕ) (k : Counters) : Type 0 where
+  pub room : Room a k
+  pub few : k .terms ≤ maxTerms table
+
+-- a line that has been judged on its own: its place is the one found, and neither 10, 11 nor 12 holds
+pub record Writable (a table : List ℕ) (k : Counters) (t : Term) (f : ℕ) (p : Place) : Type 0 where
+  pub held : Held a table k
+  pub short : t .length ≤ maxTerm
+  pub found : p ≡ placed a k f (search a (k .used) table t)
+  pub judged : firstOf (planRows (memory a table k) (planOf (p ∷ []))) ≡ 0
