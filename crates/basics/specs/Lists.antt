@@ -1,7 +1,7 @@
 -- Tests on lists.
 use Prim.Native.Nat.{ℕ}
 use mathlib.Core.List.{List, [], _∷_}
-use mathlib.Core.Bool.{Bool, true, false, _&&_, _||_}
+use mathlib.Core.Bool.{Bool, true, false, cond, _&&_, _||_}
 use lib.Dec.{eqb}
 
 module _ {A : Type 0} where
@@ -14,6 +14,11 @@ module _ {A : Type 0} where
   unfoldable pub any : (A → Bool) → List A → Bool
   any f [] = false
   any f (x ∷ xs) = f x || any f xs
+
+  -- the elements at which the test passes
+  unfoldable pub keep : (A → Bool) → List A → List A
+  keep f [] = []
+  keep f (x ∷ xs) = cond (f x) (x ∷ keep f xs) (keep f xs)
 
 -- two lists of numbers are the same
 unfoldable pub same : List ℕ → List ℕ → Bool

@@ -7,6 +7,15 @@ use Rattle.blocks.specs.Fields.{capacity}
 use Rattle.lookup.specs.Lookup.{slots}
 use Rattle.counters.specs.declared.Counters.{Counters}
 
+-- what a call is lent: arena, table, counters
+pub record Memory : Type 0 where
+  pub arena : List ℕ
+  pub table : List ℕ
+  pub counters : Counters
+
+abbrev pub memory : List ℕ → List ℕ → Counters → Memory
+memory a table k = record { arena = a; table = table; counters = k }
+
 -- at most half of the slots hold a term
 unfoldable pub maxTerms : List ℕ → ℕ
 maxTerms table = slots table / 2

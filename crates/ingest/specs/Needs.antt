@@ -8,9 +8,9 @@ use Rattle.frames.specs.Refusals.{firstOf}
 use Rattle.lookup.specs.Lookup.{search}
 use Rattle.blocks.specs.Fields.{maxWord, capacity}
 use Rattle.counters.specs.declared.Counters.{Counters}
-use Rattle.counters.specs.Counters.{maxTerms}
+use Rattle.counters.specs.Counters.{memory, maxTerms}
 use Rattle.ingest.specs.declared.Place.{Place}
-use Rattle.ingest.specs.Report.{memory, placed, planOf, planRows}
+use Rattle.ingest.specs.Report.{placed, planOf, planRows}
 
 -- the used blocks lie in the arena, and another report can be numbered
 pub record Room (a : List ℕ) (k : Counters) : Type 0 where

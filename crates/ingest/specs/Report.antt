@@ -16,21 +16,12 @@ use Rattle.lookup.specs.declared.Found.{Found}
 use Rattle.lookup.specs.declared.Found.the-variants as found
 use Rattle.lookup.specs.Lookup.{search, enter}
 use Rattle.counters.specs.declared.Counters.{Counters}
-use Rattle.counters.specs.Counters.{maxTerms, wrongCounters}
+use Rattle.counters.specs.Counters.{Memory, memory, maxTerms, wrongCounters}
 use Rattle.ingest.specs.declared.Place.{Place}
 use Rattle.ingest.specs.declared.Place.the-variants.{Damaged, New, Stays, Spills}
 use Rattle.ingest.specs.declared.Plan.{Plan}
 use Rattle.ingest.specs.declared.ReportAnswer.{ReportAnswer}
 use Rattle.ingest.specs.declared.Taken.{Taken}
-
--- what a call is lent: arena, table, counters
-pub record Memory : Type 0 where
-  pub arena : List ℕ
-  pub table : List ℕ
-  pub counters : Counters
-
-abbrev pub memory : List ℕ → List ℕ → Counters → Memory
-memory a table k = record { arena = a; table = table; counters = k }
 
 -- the number of the report that is taken next
 abbrev pub nextNumber : Counters → ℕ

@@ -8,8 +8,8 @@ ghost use Rattle.frames.specs.Frames.{maxBody, reportRefusal, reportLines, line
 ghost use Rattle.frames.specs.Refusals.{firstOf};
 ghost use Rattle.blocks.specs.Fields.{maxWord, blockSize, place, capacity};
 ghost use Rattle.lookup.specs.Lookup.{search, slots};
-ghost use Rattle.counters.specs.Counters.{wrongCounters};
-ghost use Rattle.ingest.specs.Report.{memory, lineOf, wroteAs, damagedHead, placeAt, placed, isDamaged, termsFor, blocksFor, planRows, linesPlan, written, writeLines, callRefusal, reportCall, takenOf};
+ghost use Rattle.counters.specs.Counters.{memory, maxTerms, wrongCounters};
+ghost use Rattle.ingest.specs.Report.{lineOf, wroteAs, damagedHead, placeAt, placed, isDamaged, termsFor, blocksFor, planRows, linesPlan, written, writeLines, callRefusal, reportCall, takenOf};
 ghost use Rattle.ingest.specs.Needs.{Room, Held, Writable};
 use blocks::Head;
 use counters::Counters;
