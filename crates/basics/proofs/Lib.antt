@@ -2,3 +2,4 @@ pub mod Cases
 pub mod Lists
 pub mod Stores
 pub mod Table
+pub mod Words

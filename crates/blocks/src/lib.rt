@@ -161,7 +161,7 @@ pub fn fits_in(d: Head, number: u32, count: u32) -> bool
 }
 
 // A posting at the write offset of the tail.
-fn add_to(arena: &mut [u8], h: u32, d: Head, number: u32, count: u32)
+pub fn add_to(arena: &mut [u8], h: u32, d: Head, number: u32, count: u32)
     requires { ⌜ Appends (now arena) h d number × (fits d number count ≡ true) ⌝ }
     ensures { λ r. ⌜ now (arena .exit) ≡ addTo (now (arena .entry)) h d number count ⌝ }
 {
@@ -171,7 +171,7 @@ fn add_to(arena: &mut [u8], h: u32, d: Head, number: u32, count: u32)
 }
 
 // Block b as the new tail: the old tail leads to it, and its first posting counts from the old tail's first number.
-fn join_to(arena: &mut [u8], h: u32, d: Head, b: u32, number: u32, count: u32)
+pub fn join_to(arena: &mut [u8], h: u32, d: Head, b: u32, number: u32, count: u32)
     requires { ⌜ Appends (now arena) h d number × (place b + blockSize ≤ length (now arena)) × (linkOf (now arena) (d .tail) < number) ⌝ }
     ensures { λ r. ⌜ now (arena .exit) ≡ joinTo (now (arena .entry)) h d b number count ⌝ }
 {

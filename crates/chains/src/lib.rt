@@ -46,16 +46,21 @@ fn is_exhausted(arena: &[u8], c: Cursor) -> bool
     arena[from + at] == 0
 }
 
+// Where the part of the cursor's block ends.
+fn part_end(c: Cursor) -> usize
+    ensures { λ r. ⌜ r ≡ partEnd c (c .block) ⌝ }
+{
+    if c.block == c.tail { c.end } else { 64 }
+}
+
 // The posting at the cursor, its gap counted from `base`.
 fn read_at(arena: &[u8], reports: u32, c: Cursor, base: u32) -> Step
     requires { ⌜ (place (c .block) + 64 ≤ length (now arena)) × (c .end ≤ 64) × (c .at ≤ partEnd c (c .block)) ⌝ }
     ensures { λ r. ⌜ r ≡ readAt (now (arena .entry)) reports c base ⌝ }
 {
-    let from = blocks::place_of(c.block) + c.at;
-    let mut to = blocks::place_of(c.block) + 64;
-    if c.block == c.tail {
-        to = blocks::place_of(c.block) + c.end;
-    }
+    let start = blocks::place_of(c.block);
+    let from = start + c.at;
+    let to = start + part_end(c);
     match postings::decode(&arena[from..to]) {
         Decoded::Rejected => Step::Damaged,
         Decoded::Posting { gap, count, length } => {
@@ -69,10 +74,8 @@ fn read_at(arena: &[u8], reports: u32, c: Cursor, base: u32) -> Step
             if number <= c.number {
                 return Step::Damaged;
             }
-            let mut first = c.first;
-            if first == 0 {
-                first = number;
-            }
+            let at = c.at + length;
+            let first = if c.first == 0 { number } else { c.first };
             Step::Posting {
                 number,
                 count,
@@ -80,7 +83,7 @@ fn read_at(arena: &[u8], reports: u32, c: Cursor, base: u32) -> Step
                     tail: c.tail,
                     end: c.end,
                     block: c.block,
-                    at: c.at + length,
+                    at,
                     number,
                     first,
                     left: c.left,

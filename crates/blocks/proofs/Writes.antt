@@ -1,0 +1,106 @@
+-- Laws of the bytes that are written into blocks.
+-- Assumes nothing.
+use mathlib.Core.Path.{_≡_, _∙_, ap}
+use mathlib.Core.Bool.{true}
+use mathlib.Core.List.{List, [], _∷_, _++_, append-assoc}
+use Prim.Native.Nat.{ℕ, _+_, _-_, _≤_, _<_}
+use native.Mathlib.Omega.{arith}
+use borrow.Author.Tests.{leb-true}
+use lib.ListN.{length, getD, replicate, length-append, length-replicate, getD-replicate}
+use lib.Seq.{sets}
+use Rattle.basics.specs.Words.{word}
+use Rattle.basics.proofs.Lists.{drop-replicate}
+use Rattle.basics.proofs.Stores.{sets-behind, sets-comm, sets-over}
+use Rattle.basics.proofs.Words.{length-word}
+use Rattle.postings.specs.Coding.{code}
+use Rattle.blocks.specs.declared.Head.{Head}
+use Rattle.blocks.specs.Fields.{blockSize, headFixed, linkSize, place, linkOf}
+use Rattle.blocks.specs.Writes.{padded, changing, headBytes, openHead, fits, joinTo}
+
+-- ---- a cleared block
+
+pub length-padded : (s : List ℕ) → length s ≤ blockSize → length (padded s) ≡ blockSize
+unfolding padded
+length-padded s h = simp (length-append, length-replicate) (omega arith)
+
+-- its bytes are null
+pub padded-null : (i : ℕ) → i < blockSize → getD (padded []) i 0 ≡ 0
+unfolding padded
+padded-null i h = getD-replicate blockSize i 0 0 h
+
+-- bytes written at the front of a cleared block
+pub padded-over : (a : List ℕ) (p : ℕ) (s : List ℕ) → length s ≤ blockSize → sets (sets a p (padded [])) p s ≡ sets a p (padded s)
+unfolding padded
+padded-over a p s h =
+    sets-over a p (replicate blockSize 0) s (rw length-replicate h) ∙ ap (λ (z : List ℕ). sets a p (s ++ z)) (drop-replicate (length s) blockSize 0)
+
+-- ---- the fields of a head
+
+pub length-changing : (tail last postings end : ℕ) → length (changing tail last postings end) ≡ 13
+unfolding changing
+length-changing tail last postings end = simp (length-append, length-word)
+
+pub length-headBytes : (b : ℕ) (name : List ℕ) (n f : ℕ) → length (headBytes b name n f) ≡ headFixed + length name + length (code n f)
+unfolding headBytes
+length-headBytes b name n f = simp (length-append, length-word, length-changing)
+
+-- ---- what the stores of the code come to
+
+-- the fields of a head that a posting changes, one after the other
+pub changing-stored : (a : List ℕ) (p tail last postings end : ℕ)
+    → sets (sets (sets (sets a (p + 4) (word tail)) (p + 8) (word last)) (p + 12) (word postings)) (p + 16) (end ∷ []) ≡ sets a (p + 4) (changing tail last postings end)
+unfolding changing
+changing-stored a p tail last postings end =
+    let l₁ : length (word tail) ≡ 4 = length-word tail in
+    let l₂ : length (word last) ≡ 4 = length-word last in
+    let l₃ : length (word postings) ≡ 4 = length-word postings in
+    rw (
+      sets-behind a (p + 4) (word tail) (p + 8) (word last) (omega arith),
+      sets-behind a (p + 4) (word tail ++ word last) (p + 12) (word postings) (simp length-append (omega arith)),
+      sets-behind a (p + 4) (word tail ++ word last ++ word postings) (p + 16) (end ∷ []) (simp length-append (omega arith)),
+    )
+
+-- a new term's block: cleared, then its number, the length of the name, the name, the posting, and at last the fields that change
+pub open-stored : (a : List ℕ) (b : ℕ) (name : List ℕ) (n f : ℕ) → headFixed + length name + length (code n f) ≤ blockSize
+    → sets (sets (sets (sets (sets (sets a (place b) (padded [])) (place b) (word n)) (place b + 17) (length name ∷ [])) (place b + headFixed) name) (place b + (headFixed + length name)) (code n f)) (place b + 4) (changing b n 1 (headFixed + length name + length (code n f)))
+    ≡ openHead a b name n f
+unfolding openHead headBytes
+open-stored a b name n f h =
+    let p = place b in
+    let w = word n in
+    let e = changing b n 1 (headFixed + length name + length (code n f)) in
+    let l = length name ∷ [] in
+    let s = sets a p (padded []) in
+    let t = sets s p w in
+    let r = l ++ name ++ code n f in
+    let lw : length w ≡ 4 = length-word n in
+    let le : length e ≡ 13 = length-changing b n 1 (headFixed + length name + length (code n f)) in
+    let fit : length (w ++ e ++ r) ≤ blockSize = simp length-append (omega arith) in
+    rw (
+      sets-behind t (p + 17) l (p + headFixed) name (omega arith),
+      sets-behind t (p + 17) (l ++ name) (p + (headFixed + length name)) (code n f) (simp length-append (omega arith)),
+      sets-comm t (p + 4) e (p + 17) r (omega arith),
+      sets-behind s p w (p + 4) e (omega arith),
+      sets-behind s p (w ++ e) (p + 17) r (simp length-append (omega arith)),
+      padded-over a p (w ++ e ++ r) fit,
+    )
+    (simp append-assoc)
+
+-- a block that a chain goes on in: the block before leads to it; it is cleared, then its number, its first posting, and at last the head's fields
+pub join-stored : (a : List ℕ) (h : ℕ) (d : Head) (b n f : ℕ) → linkSize + length (code (n - linkOf a (d .tail)) f) ≤ blockSize
+    → sets (sets (sets (sets (sets a (place (d .tail)) (word b)) (place b) (padded [])) (place b) (word n)) (place b + linkSize) (code (n - linkOf a (d .tail)) f)) (place h + 4) (changing b n (d .postings + 1) (linkSize + length (code (n - linkOf a (d .tail)) f)))
+    ≡ joinTo a h d b n f
+unfolding joinTo
+join-stored a h d b n f l =
+    let c = code (n - linkOf a (d .tail)) f in
+    let s = sets a (place (d .tail)) (word b) in
+    let lw : length (word n) ≡ 4 = length-word n in
+    let fit : length (word n ++ c) ≤ blockSize = simp length-append (omega arith) in
+    rw (sets-behind (sets s (place b) (padded [])) (place b) (word n) (place b + linkSize) c (omega arith), padded-over s (place b) (word n ++ c) fit)
+
+-- ---- fitting
+
+-- a posting that fits ends in the block
+pub fits-room : (d : Head) (n f : ℕ) → fits d n f ≡ true → d .end + length (code (n - d .last) f) ≤ blockSize
+unfolding fits
+fits-room d n f e = leb-true (d .end + length (code (n - d .last) f)) blockSize e

@@ -1,0 +1,3 @@
+pub mod Names
+pub mod Search
+pub mod Table
