@@ -35,18 +35,34 @@ wordAt-front n s = omega arith
 pub wordAt-before : (s : List ℕ) (i : ℕ) (a : List ℕ) (at : ℕ) → at + 4 ≤ i → wordAt (sets s i a) at ≡ wordAt s at
 unfolding wordAt
 wordAt-before s i a at h =
-    rw (getD-sets-before s i a at 0 (omega arith), getD-sets-before s i a (at + 1) 0 (omega arith), getD-sets-before s i a (at + 2) 0 (omega arith), getD-sets-before s i a (at + 3) 0 (omega arith))
+    rw (
+      getD-sets-before s i a at 0 (omega arith),
+      getD-sets-before s i a (at + 1) 0 (omega arith),
+      getD-sets-before s i a (at + 2) 0 (omega arith),
+      getD-sets-before s i a (at + 3) 0 (omega arith),
+    )
 
 pub wordAt-after : (s : List ℕ) (i : ℕ) (a : List ℕ) (at : ℕ) → i + length a ≤ at → wordAt (sets s i a) at ≡ wordAt s at
 unfolding wordAt
 wordAt-after s i a at h =
-    rw (getD-sets-after s i a at 0 (omega arith), getD-sets-after s i a (at + 1) 0 (omega arith), getD-sets-after s i a (at + 2) 0 (omega arith), getD-sets-after s i a (at + 3) 0 (omega arith))
+    rw (
+      getD-sets-after s i a at 0 (omega arith),
+      getD-sets-after s i a (at + 1) 0 (omega arith),
+      getD-sets-after s i a (at + 2) 0 (omega arith),
+      getD-sets-after s i a (at + 3) 0 (omega arith),
+    )
 
 -- at a place within it, what stands there in the list that was stored
 pub wordAt-within : (s : List ℕ) (i : ℕ) (a : List ℕ) (k : ℕ) → k + 4 ≤ length a → i + length a ≤ length s → wordAt (sets s i a) (i + k) ≡ wordAt a k
 unfolding wordAt
 wordAt-within s i a k h l =
-    simp (add-assoc, getD-sets s i a k 0 (omega arith) (omega arith), getD-sets s i a (k + 1) 0 (omega arith) (omega arith), getD-sets s i a (k + 2) 0 (omega arith) (omega arith), getD-sets s i a (k + 3) 0 (omega arith) (omega arith))
+    simp (
+      add-assoc,
+      getD-sets s i a k 0 (omega arith) (omega arith),
+      getD-sets s i a (k + 1) 0 (omega arith) (omega arith),
+      getD-sets s i a (k + 2) 0 (omega arith) (omega arith),
+      getD-sets s i a (k + 3) 0 (omega arith) (omega arith),
+    )
 
 -- a number stored is read back
 pub wordAt-stored : (s : List ℕ) (at n : ℕ) → at + 4 ≤ length s → wordAt (sets s at (word n)) at ≡ n

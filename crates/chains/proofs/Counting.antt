@@ -1,6 +1,6 @@
--- The loop that reads a chain whole, as what is left of it: after n postings up to `number`.
+-- The loop that reads a chain whole: n postings up to `number` are counted, and what is left decides.
 -- Assumes nothing.
-use Prim.Native.Nat.{ℕ, suc, _+_, _≤_}
+use Prim.Native.Nat.{ℕ, suc, _+_, _≤_, _<_}
 use mathlib.Core.Path.{_≡_, refl, sym, ap, _∙_}
 use mathlib.Core.Bool.{Bool, true, false, cond, _&&_}
 use mathlib.Core.List.{List}
@@ -45,42 +45,41 @@ pub record Counted (a : List ℕ) (used reports h : ℕ) (d : Head) (c : Cursor)
   pub within : c .number ≤ reports
   pub is : isWhole (chainOf a used reports h) ≡ finish d n (c .number) (rest a used reports c)
 
-module _ (a : List ℕ) (used reports h : ℕ) where
-  pub start : place used ≤ length a → suc h ≤ used → badHead (headOf a h) used h ≡ false
-      → Counted a used reports h (headOf a h) (atHead (headOf a h) used h) 0
-  unfolding atHead
-  start i u e =
-      let f = head-follows a used h (headOf a h) i u e in
+pub start : (a : List ℕ) (used reports h : ℕ) → place used ≤ length a → h < used → badHead (headOf a h) used h ≡ false
+    → Counted a used reports h (headOf a h) (atHead (headOf a h) used h) 0
+unfolding atHead
+start a used reports h i u e =
+    let f = head-follows a used h (headOf a h) i u e in
+    record {
+      follows = f .0;
+      far = f .1;
+      few = omega arith;
+      within = omega arith;
+      is = ap isWhole (chain-good a used reports h e) ∙ finish-start (headOf a h) _ ∙ ap (finish (headOf a h) 0 0) (head-rest a used reports h (headOf a h));
+    }
+
+module _ {a : List ℕ} {used reports h : ℕ} {d : Head} {c : Cursor} {n : ℕ} (w : Counted a used reports h d c n) where
+  pub more : {m f : ℕ} {c′ : Cursor} → stepAt a used reports c ≡ step.Posting m f c′ → Counted a used reports h d c′ (n + 1)
+  more {m} {f} {c′} e =
+      let s = step-follows a used reports c e in
       record {
-        follows = f .0;
-        far = f .1;
+        follows = s .follows (w .follows);
+        far = rw (s .end) (w .far);
         few = omega arith;
         within = omega arith;
-        is = ap isWhole (chain-good a used reports h e) ∙ finish-start (headOf a h) _ ∙ ap (finish (headOf a h) 0 0) (head-rest a used reports h (headOf a h));
+        is = w .is ∙ ap (finish d n (c .number)) (rest-posting a used reports c e) ∙ finish-onto d n (c .number) (record { number = m; count = f }) (rest a used reports c′) ∙ ap (λ (x : ℕ). finish d (n + 1) x (rest a used reports c′)) (sym (s .number));
       }
 
-  module _ (d : Head) (c : Cursor) (n : ℕ) (w : Counted a used reports h d c n) where
-    pub more : {m f : ℕ} {c′ : Cursor} → stepAt a used reports c ≡ step.Posting m f c′ → Counted a used reports h d c′ (n + 1)
-    more {m} {f} {c′} e =
-        let s = step-follows a used reports c e in
-        record {
-          follows = s .follows (w .follows);
-          far = rw (s .end) (w .far);
-          few = omega arith;
-          within = omega arith;
-          is = w .is ∙ ap (finish d n (c .number)) (rest-posting a used reports c e) ∙ finish-onto d n (c .number) (record { number = m; count = f }) (rest a used reports c′) ∙ ap (λ (x : ℕ). finish d (n + 1) x (rest a used reports c′)) (sym (s .number));
-        }
+  at-end : stepAt a used reports c ≡ step.End → isWhole (chainOf a used reports h) ≡ eqb n (d .postings) && eqb (c .number) (d .last)
+  unfolding finish lastFrom
+  at-end e = w .is ∙ ap (finish d n (c .number)) (rest-end a used reports c e) ∙ rw add-zero
 
-    at-end : stepAt a used reports c ≡ step.End → isWhole (chainOf a used reports h) ≡ eqb n (d .postings) && eqb (c .number) (d .last)
-    unfolding finish lastFrom
-    at-end e = w .is ∙ ap (finish d n (c .number)) (rest-end a used reports c e) ∙ rw add-zero
+  pub ended : stepAt a used reports c ≡ step.End → n ≡ d .postings → isWhole (chainOf a used reports h) ≡ eqb (c .number) (d .last)
+  ended e p = at-end e ∙ rw (eq-eqb n (d .postings) p)
 
-    pub ended : stepAt a used reports c ≡ step.End → n ≡ d .postings → isWhole (chainOf a used reports h) ≡ eqb (c .number) (d .last)
-    ended e p = at-end e ∙ rw (eq-eqb n (d .postings) p)
+  pub miscounted : stepAt a used reports c ≡ step.End → (n ≡ d .postings → ⊥) → isWhole (chainOf a used reports h) ≡ eqb n (d .postings)
+  miscounted e p = at-end e ∙ rw (ne-eqb n (d .postings) p)
 
-    pub miscounted : stepAt a used reports c ≡ step.End → (n ≡ d .postings → ⊥) → isWhole (chainOf a used reports h) ≡ eqb n (d .postings)
-    miscounted e p = at-end e ∙ rw (ne-eqb n (d .postings) p)
-
-    pub broken : stepAt a used reports c ≡ step.Damaged → isWhole (chainOf a used reports h) ≡ false
-    unfolding finish
-    broken e = w .is ∙ ap (finish d n (c .number)) (rest-damaged a used reports c e)
+  pub broken : stepAt a used reports c ≡ step.Damaged → isWhole (chainOf a used reports h) ≡ false
+  unfolding finish
+  broken e = w .is ∙ ap (finish d n (c .number)) (rest-damaged a used reports c e)

@@ -77,6 +77,7 @@ onto-whole p damaged ps e = let z : _≡_ {A = ℕ} 0 1 = cc in absurd (omega ar
 onto-whole p (whole qs) ps e = (qs, refl, cc)
 
 module _ (a : List ℕ) (used reports : ℕ) where
+  -- a step, and what is read behind it
   pub run-step : (k : ℕ) (c : Cursor) → run (suc k) a used reports c ≡ follow (run k a used reports) (stepAt a used reports c)
   unfolding run
   run-step k c = refl
@@ -196,7 +197,7 @@ head-follows a used h d i u e =
     let g = head-good d used h e in
     (record { inside = i; in-use = u; end-in = g .within }, omega (arith, part-start-ge d h (d .tail)))
 
--- its fuel is enough
+-- from a head on, reports and one steps are enough
 pub head-rest : (a : List ℕ) (used reports h : ℕ) (d : Head) → run (suc reports) a used reports (atHead d used h) ≡ rest a used reports (atHead d used h)
 unfolding atHead
 head-rest a used reports h d = run-rest a used reports (suc reports) (atHead d used h) (omega arith)
@@ -261,7 +262,7 @@ unfolding agreeing
 chain-from a used reports h ps e w p q =
     chain-good a used reports h e ∙ rw (w, eq-eqb (length ps) (headOf a h .postings) p, eq-eqb (lastFrom 0 ps) (headOf a h .last) q)
 
--- what is read whole has postings
+-- what is read whole is a list of postings
 pub is-whole : (r : Reading) → isWhole r ≡ true → (ps : List Posting) × (r ≡ whole ps)
 unfolding isWhole
 is-whole damaged e = let z : _≡_ {A = ℕ} 0 1 = cc in absurd (omega arith)

@@ -83,7 +83,7 @@ pub record Reached (table : List ℕ) (k : Known) : Type 0 where
   pub value : getD table slot 0 ≡ k .head + 1
   pub way : Way (slots table) table (slots table) (fnv1a (k .name) % slots table) slot
 
--- THE INVARIANT: a table holds these terms, named in order of their entry. At most half of its slots are filled; each term's head is used
+-- the invariant: a table holds these terms, in order of their entry. At most half of its slots are filled; each term's head is used
 -- and holds its name; names are different; slots hold nothing else; each term is reached
 pub record Tab (a : List ℕ) (used : ℕ) (table : List ℕ) (ks : List Known) : Type 0 where
   pub most : length ks ≤ slots table / 2
@@ -172,7 +172,7 @@ module _ {a : List ℕ} {used : ℕ} {table : List ℕ} {ks : List Known} (tab :
       at-filled i l left k h (λ z. omega arith) (λ m. absurd (m (rw e (tab .stands i l .named))))
   on-way i l h v (on {left} {s} {k} n w) = at-filled i l left s h n (λ m. on-way i l (next-lt (slots table) s h) v w)
 
-  -- KNOWN: the search for a term of the table finds its head
+  -- the search for a term of the table finds its head
   pub known : (t : Term) (i : ℕ) → i < length ks → Seeks t (nth ks i .name) → sought a used table t ≡ At (nth ks i .head)
   known t i l seeks =
       let some : 0 < slots table = omega (arith, tab .most) in
@@ -217,7 +217,7 @@ module _ {a : List ℕ} {used : ℕ} {table : List ℕ} {ks : List Known} (tab :
             absurd (new (f .index) (f .in-range) (sym (filled-stands f .named) ∙ m .named))
         go (passed n m q) ih = let r = ih n in (r .0, q ∙ r .1)
 
-  -- UNKNOWN: the search for any other name ends at an empty slot
+  -- the search for any other name ends at an empty slot
   pub unknown : (t : Term) (w : List ℕ) → Seeks t w → Lacks ks w → 0 < slots table → Open a used table t
   unknown t w seeks new some =
       let free : Spare (slots table) table = spare (slots table) table (omega (arith, tab .most, tab .count)) in
@@ -228,7 +228,7 @@ module _ {a : List ℕ} {used : ℕ} {table : List ℕ} {ks : List Known} (tab :
 
 -- ---- what keeps the invariant
 
--- START: a cleared table holds no term
+-- a cleared table holds no term
 pub tab-start : (a : List ℕ) (used n : ℕ) → Tab a used (replicate n 0) []
 tab-start a used n =
     record {
@@ -240,7 +240,7 @@ tab-start a used n =
       count = filled-none (slots (replicate n 0)) n;
     }
 
--- OTHER WRITES: the arena may change where the names of the heads stay, and blocks may be taken
+-- the arena may change where the names of the heads stay, and blocks may be taken
 pub tab-keep : {a : List ℕ} {used : ℕ} {table : List ℕ} {ks : List Known} → Tab a used table ks → (a′ : List ℕ) (used′ : ℕ) → used ≤ used′
     → ((i : ℕ) → i < length ks → nameOf a′ (nth ks i .head) ≡ nameOf a (nth ks i .head)) → Tab a′ used′ table ks
 tab-keep tab a′ used′ more kept =
@@ -318,10 +318,11 @@ module _ {a : List ℕ} {used : ℕ} {table : List ℕ} {ks : List Known} (tab :
         apart = λ i j h. apart-more i h j;
         only = λ r h. only-more r (rw (slots-enter table s (k .head)) at h);
         reached = each (λ i j. Reached (enter table s (k .head)) j) ks k (λ i h. reach-old (nth ks i) (tab .reached i h)) reach-new;
-        count = rw (slots-enter table s (k .head), length-append, add-one (k .head)) (filled-set (slots table) table s (k .head) (v .inside) in-table (v .empty) ∙ omega (arith, tab .count));
+        count = rw (slots-enter table s (k .head), length-append, add-one (k .head))
+            (filled-set (slots table) table s (k .head) (v .inside) in-table (v .empty) ∙ omega (arith, tab .count));
       }
 
--- ENTERING: a new name, its head in the slot that its search gave, be it in this arena or in one before
+-- a new name is entered, its head in the slot that its search gave, be it in this arena or in one before
 pub tab-enter : {a : List ℕ} {used : ℕ} {table : List ℕ} {ks : List Known} → Tab a used table ks → (k : Known)
     → Lacks ks (k .name) → Stands a used (k .name) (k .head) → length ks < slots table / 2
     → (a₀ : List ℕ) (used₀ : ℕ) (t : Term) (s : ℕ) → Seeks t (k .name) → sought a₀ used₀ table t ≡ Unknown s

@@ -183,6 +183,102 @@ fn frame(payload: &[u8]) {
     }
 }
 
+// One posting more in the chain whose head is block 0, in an arena of 24 blocks. Returns the blocks used; nothing is written where the posting
+// does not follow the last one or there is no room.
+fn put_posting(arena: &mut [u8], used: u32, number: u32, count: u32) -> u32
+    requires { ⌜ 1536 ≤ length (now arena) ⌝ }
+{
+    let d = blocks::head_of(arena, 0);
+    let tail = d.tail;
+    if 24 <= tail {
+        return used;
+    }
+    if 24 <= used {
+        return used;
+    }
+    let first = blocks::link_of(arena, tail);
+    if number <= d.last {
+        return used;
+    }
+    if number <= first {
+        return used;
+    }
+    if 64 < d.end {
+        return used;
+    }
+    if d.postings == 4294967295 {
+        return used;
+    }
+    if blocks::append_posting(arena, 0, used, number, count) {
+        used
+    } else {
+        used + 1
+    }
+}
+
+// The postings from `from` on, eight bytes each.
+fn put_postings(arena: &mut [u8], payload: &[u8], from: usize) -> u32
+    requires { ⌜ (1536 ≤ length (now arena)) × (from ≤ length (now payload)) ⌝ }
+{
+    let mut used: u32 = 1;
+    let mut at = from;
+    while at + 8 <= payload.len() {
+        let number = basics::read_word(payload, at);
+        let count = basics::read_word(payload, at + 4);
+        used = put_posting(arena, used, number, count);
+        at += 8;
+    }
+    used
+}
+
+// The postings as numbers and counts.
+fn print_postings(payload: &[u8], from: usize)
+    requires { ⌜ from ≤ length (now payload) ⌝ }
+{
+    let mut at = from;
+    while at + 8 <= payload.len() {
+        print_number(basics::read_word(payload, at) as u64);
+        print(b":");
+        print_decimal(STDOUT_FILENO, basics::read_word(payload, at + 4) as u64);
+        at += 8;
+    }
+}
+
+// Sort 6: the chain of one term, laid out in an arena of null bytes with its head at block 0.
+fn chain(payload: &[u8]) {
+    if payload.len() == 0 {
+        return;
+    }
+    let from = 1 + wide(payload[0]) as usize;
+    if payload.len() < from + 8 {
+        return;
+    }
+    let term = &payload[1..from];
+    if !terms::is_term(term) {
+        return;
+    }
+    let number = basics::read_word(payload, from);
+    if number == 0 {
+        return;
+    }
+    let mut arena = [0u8; 1536];
+    blocks::open_head(
+        &mut arena,
+        0,
+        terms::fold(term),
+        number,
+        basics::read_word(payload, from + 4),
+    );
+    let used = put_postings(&mut arena, payload, from + 8);
+    print(b"blocks");
+    print_bytes(term);
+    print_postings(payload, from);
+    if used <= 24 {
+        let end = blocks::place_of(used);
+        print_bytes(&arena[..end]);
+    }
+}
+
 fn answer(sort: u8, payload: &[u8]) {
     match sort {
         1 => hash(payload),
@@ -190,6 +286,7 @@ fn answer(sort: u8, payload: &[u8]) {
         3 => decode(payload),
         4 => fold(payload),
         5 => frame(payload),
+        6 => chain(payload),
         _ => print(b"unknown"),
     }
     print(b"\n");

@@ -48,7 +48,7 @@ loop-again c =
     let len : length (padded []) ≡ blockSize = length-padded [] (omega arith) in (
       omega arith,
       simp length-set (l .loop .inv .1),
-      sets-turn (l .loop .arena) from (padded []) i 0 0 (omega arith) (sym (padded-null i (c .loop-test .taken))) ∙ l .loop .inv .2,
+      sets-turn (l .loop .arena) from (padded []) i 0 0 (omega arith) (sym (padded-null i (omega arith))) ∙ l .loop .inv .2,
     )
 
 same-length : tie.Need-same-length Inv-loop μ-loop

@@ -1,4 +1,4 @@
--- `chains::advance` meets its contract.
+-- `chains::advance` meets its contract: each way out is a law of `proofs.Steps`.
 -- Assumes nothing.
 use borrow.Author.Needs.{needs}
 use Rattle.chains.proofs.advance.Statement.{statement}

@@ -1,4 +1,4 @@
--- `chains::is_bad_head` meets its contract.
+-- `chains::is_bad_head` meets its contract: the tests, one after the other.
 -- Assumes nothing.
 use borrow.Author.Needs.{needs}
 use Rattle.chains.proofs.is_bad_head.Statement.{statement}

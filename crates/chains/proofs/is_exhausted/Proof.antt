@@ -1,4 +1,4 @@
--- `chains::is_exhausted` meets its contract.
+-- `chains::is_exhausted` meets its contract: the tests, one after the other.
 -- Assumes nothing.
 use borrow.Author.Needs.{needs}
 use Rattle.chains.proofs.is_exhausted.Statement.{statement}

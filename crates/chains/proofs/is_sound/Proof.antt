@@ -1,4 +1,4 @@
--- `chains::is_sound` meets its contract: what is left to read, judged from the postings read so far, is the same in every turn.
+-- `chains::is_sound` meets its contract: what is left to read, judged by the postings counted so far, stays the answer in every turn.
 -- Assumes nothing.
 use Rattle.chains.proofs.is_sound.Statement.{statement}
 use Rattle.chains.proofs.is_sound.Tie as tie
@@ -28,6 +28,7 @@ short c =
     let s = c .before .before .args in
     omega (arith, ap (λ (d : Head). d .length) (c .head-of .ensures), c .before .shared-slice-known .given (place (s .h) + 17))
 
+-- the test of the head is that of the definition
 judged : (c : tie.After-is-bad-head Inv-loop μ-loop)
     → let s = c .before .before .before .args in badHead (headOf (now (s .arena)) (s .h)) (s .used) (s .h) ≡ c .is-bad-head .result
 judged c =
@@ -64,16 +65,16 @@ enum-told : tie.Need-enum-told Inv-loop μ-loop
 enum-told c = search needs
 
 returns-2 : tie.Need-returns-2 Inv-loop μ-loop
-returns-2 c = sym (broken _ _ _ _ _ _ _ (c .before .before .before .loop .inv) (stepped (c .before .before) step.Damaged (c .enum-told .given .1)))
+returns-2 c = sym (broken (c .before .before .before .loop .inv) (stepped (c .before .before) step.Damaged (c .enum-told .given .1)))
 
 enum-told-2 : tie.Need-enum-told-2 Inv-loop μ-loop
 enum-told-2 c = search needs
 
 returns-3 : tie.Need-returns-3 Inv-loop μ-loop
-returns-3 c = sym (ended _ _ _ _ _ _ _ (c .before .before .before .before .before .before .before .loop .inv) (stepped (c .before .before .before .before .before .before) step.End (c .before .before .before .before .enum-told2 .given .1)) (c .before .before .if2 .taken))
+returns-3 c = sym (ended (c .before .before .before .before .before .before .before .loop .inv) (stepped (c .before .before .before .before .before .before) step.End (c .before .before .before .before .enum-told2 .given .1)) (c .before .before .if2 .taken))
 
 returns-4 : tie.Need-returns-4 Inv-loop μ-loop
-returns-4 c = sym (miscounted _ _ _ _ _ _ _ (c .before .before .before .before .before .loop .inv) (stepped (c .before .before .before .before) step.End (c .before .before .enum-told2 .given .1)) (c .if2 .left))
+returns-4 c = sym (miscounted (c .before .before .before .before .before .loop .inv) (stepped (c .before .before .before .before) step.End (c .before .before .enum-told2 .given .1)) (c .if2 .left))
 
 enum-known-next : tie.Need-enum-known-next Inv-loop μ-loop
 enum-known-next c = search needs
@@ -85,7 +86,7 @@ loop-less : tie.Need-loop-less Inv-loop μ-loop
 loop-less c = let s = step-follows _ _ _ _ (stepped (c .before .before .before) _ (c .before .next .given .1)) in omega arith
 
 loop-again : tie.Need-loop-again Inv-loop μ-loop
-loop-again c = more _ _ _ _ _ _ _ (c .before .before .before .before .loop .inv) (stepped (c .before .before .before) _ (c .before .next .given .1))
+loop-again c = more (c .before .before .before .before .loop .inv) (stepped (c .before .before .before) _ (c .before .next .given .1))
 
 pub is-sound-spec : {M : Type 1} → statement M
 is-sound-spec =

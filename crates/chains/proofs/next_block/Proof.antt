@@ -1,4 +1,4 @@
--- `chains::next_block` meets its contract.
+-- `chains::next_block` meets its contract: each way out is a law of `proofs.Steps`.
 -- Assumes nothing.
 use borrow.Author.Needs.{needs}
 use Rattle.chains.proofs.next_block.Statement.{statement}

@@ -1,4 +1,4 @@
--- `chains::read_at` meets its contract.
+-- `chains::read_at` meets its contract: the slice is the part from the cursor on, and what is decoded there is judged by the laws of `given`.
 -- Assumes nothing.
 use borrow.Author.Needs.{needs}
 use Rattle.chains.proofs.read_at.Statement.{statement}
@@ -67,6 +67,7 @@ module _ (c : tie.After-decode) where
   unfolding readAt
   from x e = ap (given (s .args .reports) k (s .args .base)) (sym is ∙ e)
 
+-- the posting found
 module _ (c : tie.After-gap) where
   abbrev m : tie.After-decode
   m = c .before .before

@@ -1,4 +1,4 @@
--- `lookup::enter_at` meets its contract.
+-- `lookup::enter_at` meets its contract: one store.
 -- Assumes nothing.
 use mathlib.Core.Path.{refl}
 use borrow.Author.Needs.{needs}

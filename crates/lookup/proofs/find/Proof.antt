@@ -70,12 +70,15 @@ module _ (c : tie.In-loop Inv-loop μ-loop) where
   entry = getD (s .args .table .now) (c .before .loop .slot) 0
 
   abbrev rest : Found
-  rest = searchFrom (c .before .loop .left - 1) (s .args .arena .now) (s .args .used) (s .args .table .now) (nameIn (s .args .term)) (nextSlot (slots (s .args .table .now)) (c .before .loop .slot))
+  rest =
+      searchFrom (c .before .loop .left - 1) (s .args .arena .now) (s .args .used) (s .args .table .now) (nameIn (s .args .term)) (nextSlot (slots (s .args .table .now)) (c .before .loop .slot))
 
   whole : sought (s .args .arena .now) (s .args .used) (s .args .table .now) (s .args .term)
       ≡ cond (eqb entry 0) (Unknown (c .before .loop .slot))
       (cond (ltb (entry - 1) (s .args .used)) (cond (same (nameOf (s .args .arena .now) (entry - 1)) (nameIn (s .args .term))) (At (entry - 1)) rest) Damaged)
-  whole = c .before .loop .inv .1 ∙ from-some (s .args .arena .now) (s .args .used) (s .args .table .now) (nameIn (s .args .term)) (c .before .loop .left) (c .before .loop .slot) (c .loop-test .taken)
+  whole =
+      c .before .loop .inv .1
+      ∙ from-some (s .args .arena .now) (s .args .used) (s .args .table .now) (nameIn (s .args .term)) (c .before .loop .left) (c .before .loop .slot) (c .loop-test .taken)
 
 returns-2 : tie.Need-returns-2 Inv-loop μ-loop
 returns-2 c =

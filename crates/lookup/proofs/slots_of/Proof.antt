@@ -1,4 +1,4 @@
--- `lookup::slots_of` meets its contract.
+-- `lookup::slots_of` meets its contract: the smaller of two numbers.
 -- Assumes nothing.
 use native.Mathlib.Omega.{arith}
 use borrow.Author.Needs.{needs}
