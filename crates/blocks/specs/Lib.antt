@@ -1,3 +1,4 @@
 pub mod Fields
 pub mod Writes
 pub mod Prescribed
+pub mod Marked

@@ -8,6 +8,7 @@ ghost use lib.Seq.{sets};
 ghost use Rattle.postings.specs.Coding.{code};
 ghost use Rattle.terms.specs.Terms.{maxTerm, nameIn};
 ghost use Rattle.blocks.specs.Fields.{blockSize, headFixed, capacity, place, linkOf, headOf, partStart, partOf};
+ghost use Rattle.blocks.specs.Marked.{markedRight};
 ghost use Rattle.blocks.specs.Writes.{padded, changing, openHead, fits, addTo, joinTo, append, Appends};
 use postings::BGap;
 use postings::DGap;
@@ -197,3 +198,8 @@ pub fn append_posting(arena: &mut [u8], h: u32, b: u32, number: u32, count: u32)
     join_to(arena, h, d, b, number, count);
     false
 }
+
+// The twelve marked cases of document 01 hold under the definitions.
+pub fn marked_cases_hold()
+    ensures { λ _. ⌜ markedRight ≡ true ⌝ }
+{}

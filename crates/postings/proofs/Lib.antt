@@ -1,5 +1,4 @@
 pub mod Values
 pub mod Codes
 pub mod Laws
-pub mod Marked
 pub mod Reading

@@ -1,10 +1,10 @@
--- The marked cases of document 01, "Coding a posting", as a table; one computed test shows it right.
+-- The marked cases of document 01, "Coding a posting". The blocks crate joins the marked chain to them and shows all twelve right by one computed test.
 use Prim.Native.Nat.{ℕ}
 use mathlib.Core.List.{List, [], _∷_}
 use mathlib.Core.Bool.{Bool, false, _&&_}
 use lib.Dec.{eqb}
 use lib.ListN.{length}
-use Rattle.basics.specs.Lists.{all, same}
+use Rattle.basics.specs.Lists.{same}
 use Rattle.postings.specs.declared.Decoded.{Decoded}
 use Rattle.postings.specs.declared.Decoded.the-variants.{Posting, Rejected}
 use Rattle.postings.specs.Coding.{vbyte, code, decoded}
@@ -38,6 +38,3 @@ finds g f l Rejected = false
 unfoldable pub right : Case → Bool
 right (posting g f s) = same (code g f) s && finds g f (length s) (decoded s)
 right (single n s) = same (vbyte n) s
-
-unfoldable pub markedRight : Bool
-markedRight = all right marked

@@ -1,12 +1,10 @@
 // Double-VByte with threshold 4 (document 01, "Coding a posting"): a posting's gap and count as one or two values, each seven bits at a time,
 // lowest first.
 ghost use mathlib.Core.Path.{_≡_};
-ghost use mathlib.Core.Bool.{true};
 ghost use Prim.Native.Nat.{_+_, _-_, _≤_, _<_, _^_};
 ghost use lib.ListN.{length};
 ghost use lib.Seq.{sets};
 ghost use Rattle.postings.specs.Coding.{vbyte, code, codeLength, value, atMost, decoded};
-ghost use Rattle.postings.specs.Marked.{markedRight};
 ghost use Rattle.postings.specs.Claims.{RoundTrips};
 
 // The distance of a report from the last one in the chain.
@@ -234,9 +232,4 @@ pub fn decode(s: &[u8]) -> Decoded
 // Demand 2, as a contract, so that the gate fails without it.
 pub fn codes_round_trip()
     ensures { λ _. ⌜ RoundTrips ⌝ }
-{}
-
-// The marked cases of document 01 hold under the definitions.
-pub fn marked_cases_hold()
-    ensures { λ _. ⌜ markedRight ≡ true ⌝ }
 {}
