@@ -65,10 +65,14 @@ matches m f = common (queryStart f) (map (postingsOf m) (queryTerms f))
 
 -- ---- the calls: the lists are filled from the front, later places keep their contents; more remain exactly when some did not fit
 
-pub record Listed : Type 0 where
+pub record ListedOne : Type 0 where
   pub answer : ListAnswer
   pub numbers : List ℕ
   pub counts : List ℕ
+
+pub record ListedAll : Type 0 where
+  pub answer : ListAnswer
+  pub numbers : List ℕ
 
 abbrev pub refused : ℕ → ListAnswer
 refused n = record { refusal = n; more = false; filled = 0 }
@@ -76,24 +80,29 @@ refused n = record { refusal = n; more = false; filled = 0 }
 abbrev pub listed : ℕ → List Posting → ListAnswer
 listed room ps = record { refusal = 0; more = ltb room (length ps); filled = min room (length ps) }
 
-unfoldable pub listOneCall : Memory → List ℕ → List ℕ → List ℕ → Listed
+-- as many as fit, from the front
+abbrev pub numbersOf : ℕ → List Posting → List ℕ
+numbersOf room ps = map (λ p. p .number) (take room ps)
+
+abbrev pub countsOf : ℕ → List Posting → List ℕ
+countsOf room ps = map (λ p. p .count) (take room ps)
+
+unfoldable pub listOne : List Posting → List ℕ → List ℕ → ListedOne
+listOne ps numbers counts =
+    let room = min (length numbers) (length counts) in
+    record { answer = listed room ps; numbers = sets numbers 0 (numbersOf room ps); counts = sets counts 0 (countsOf room ps) }
+
+unfoldable pub listAll : List Posting → List ℕ → ListedAll
+listAll ps numbers =
+    let room = length numbers in
+    record { answer = listed room ps; numbers = sets numbers 0 (numbersOf room ps) }
+
+unfoldable pub listOneCall : Memory → List ℕ → List ℕ → List ℕ → ListedOne
 listOneCall m f numbers counts =
     let r = listRefusal 2 1 m f in
-    let ps = matches m f in
-    let room = min (length numbers) (length counts) in
-    cond (eqb r 0) (record {
-      answer = listed room ps;
-      numbers = sets numbers 0 (map (λ p. p .number) (take room ps));
-      counts = sets counts 0 (map (λ p. p .count) (take room ps));
-    }) (record { answer = refused r; numbers = numbers; counts = counts })
+    cond (eqb r 0) (listOne (matches m f) numbers counts) (record { answer = refused r; numbers = numbers; counts = counts })
 
-unfoldable pub listAllCall : Memory → List ℕ → List ℕ → Listed
+unfoldable pub listAllCall : Memory → List ℕ → List ℕ → ListedAll
 listAllCall m f numbers =
     let r = listRefusal 3 8 m f in
-    let ps = matches m f in
-    let room = length numbers in
-    cond (eqb r 0) (record {
-      answer = listed room ps;
-      numbers = sets numbers 0 (map (λ p. p .number) (take room ps));
-      counts = [];
-    }) (record { answer = refused r; numbers = numbers; counts = [] })
+    cond (eqb r 0) (listAll (matches m f) numbers) (record { answer = refused r; numbers = numbers })
