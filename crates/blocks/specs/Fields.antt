@@ -24,9 +24,12 @@ linkSize = 4
 abbrev pub maxWord : ℕ
 maxWord = 4294967295
 
--- how many blocks an arena holds
+-- how many blocks an arena of so many bytes holds
+abbrev pub blocksIn : ℕ → ℕ
+blocksIn bytes = min (bytes / blockSize) maxWord
+
 unfoldable pub capacity : List ℕ → ℕ
-capacity a = min (length a / blockSize) maxWord
+capacity a = blocksIn (length a)
 
 -- where block b stands in the arena
 abbrev pub place : ℕ → ℕ

@@ -11,9 +11,12 @@ use Rattle.blocks.specs.Fields.{maxWord, nameOf}
 use Rattle.lookup.specs.declared.Found.{Found}
 use Rattle.lookup.specs.declared.Found.the-variants.{At, Unknown, Damaged}
 
--- T: how many entries of the table are slots
+-- T: how many entries of a table of so many are slots
+abbrev pub slotsIn : ℕ → ℕ
+slotsIn entries = min entries maxWord
+
 unfoldable pub slots : List ℕ → ℕ
-slots table = min (length table) maxWord
+slots table = slotsIn (length table)
 
 -- one slot on, wrapping
 unfoldable pub nextSlot : ℕ → ℕ → ℕ

@@ -1,0 +1,13 @@
+pub mod Chains
+pub mod Held
+pub mod Arena
+pub mod Forms
+pub mod Bytes
+pub mod Linked
+pub mod Standing
+pub mod Image
+pub mod Append
+pub mod Open
+pub mod Steps
+pub mod Reading
+pub mod Laws

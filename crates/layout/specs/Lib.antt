@@ -1,0 +1,4 @@
+pub mod Chains
+pub mod Held
+pub mod Index
+pub mod Claims
