@@ -19,8 +19,8 @@ use Rattle.blocks.specs.Writes.{padded, changing, fits, addTo, joinTo, append}
 use Rattle.blocks.specs.Prescribed.{Posting, Reach}
 use Rattle.chains.specs.Chains.{lastFrom}
 use Rattle.layout.specs.Chains.{After, coded, dEntry, bEntry, stays}
-use Rattle.layout.specs.Held.{Held, postingsOf, blockNo, headNo, tailNo, chain, headFor, blockBytes, codesAt}
-use Rattle.layout.specs.Index.{Index, termAt, ownerAt, noAt, noOwner, usedOf, Linked, blockAt, Image, grown, withPostingAs, withPosting}
+use Rattle.layout.specs.Held.{Held, postingsOf, blockNo, headNo, tailNo, chain, headFor, blockBytes}
+use Rattle.layout.specs.Index.{Index, termAt, ownerAt, noOwner, usedOf, Linked, blockAt, Image, grown, withPostingAs, withPosting}
 use Rattle.layout.proofs.Held.{tailAt, nos-closed, fits-stays, head-stays, head-next}
 use Rattle.layout.proofs.Arena.{length-block, storeIf, store-block, store-front}
 use Rattle.layout.proofs.Forms.{length-padded}

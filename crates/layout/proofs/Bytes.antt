@@ -15,7 +15,7 @@ use Rattle.blocks.specs.Fields.{blockSize}
 use Rattle.blocks.specs.Writes.{padded, changing, headBytes}
 use Rattle.blocks.specs.Prescribed.{Posting, opened}
 use Rattle.layout.specs.Chains.{Entry, coded, codes, Block, entries, Chain, dEntry, bEntry, begun, stays, puts, blockIn}
-use Rattle.layout.specs.Held.{Held, chain, headFor, linkAt, form, written, blockBytes, blockNo, codesAt}
+use Rattle.layout.specs.Held.{Held, chain, headFor, linkAt, form, written, blockBytes}
 use Rattle.layout.specs.Index.{Sound, fresh, grown}
 use Rattle.layout.proofs.Chains.{codes-snoc, codes-one, onward-stays, onward-next}
 use Rattle.layout.proofs.Held.{tailAt, chain-holds, nos-closed, chain-grown}

@@ -77,6 +77,7 @@ restored-next n ks e = rw restored-append
 
 -- ---- postings that rise
 
+-- one more at the end
 pub last-snoc : (n : ℕ) (ps : List Posting) (p : Posting) → lastFrom n (ps ++ (p ∷ [])) ≡ p .number
 unfolding lastFrom
 last-snoc n [] p = refl

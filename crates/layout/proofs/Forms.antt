@@ -30,8 +30,8 @@ length-padded s h = rw (length-append, length-replicate) (omega arith)
 padded-more : (s t : List ℕ) → length s + length t ≤ blockSize → sets (padded s) (length s) t ≡ padded (s ++ t)
 unfolding padded
 padded-more s t h =
-    let z : ℕ = 64 - length s in
-    let left : z - length t ≡ 64 - length (s ++ t) = rw length-append (omega arith) in
+    let z : ℕ = blockSize - length s in
+    let left : z - length t ≡ blockSize - length (s ++ t) = rw length-append (omega arith) in
     ap (λ (j : ℕ). sets (s ++ replicate z 0) j t) (sym (add-zero (length s)))
     ∙ rw (sets-second s (replicate z 0) 0 t, sets-front t z 0 (omega arith), left, append-assoc)
 

@@ -15,7 +15,7 @@ use Rattle.layout.specs.Chains.{After}
 use Rattle.layout.specs.Held.{postingsOf, headNo, headFor}
 use Rattle.layout.specs.Index.{Index, termAt, usedOf, Linked, Keeps, Image, grown, joined, withTerm, withPosting}
 use Rattle.layout.specs.Claims.{Fields, Onward, ReadsBack}
-use Rattle.layout.proofs.Held.{chain-reach, chain-holds, nos-closed}
+use Rattle.layout.proofs.Held.{nos-closed}
 use Rattle.layout.proofs.Linked.{mine, other, keeps-posting, linked-posting, keeps-term, linked-term, linked-empty}
 use Rattle.layout.proofs.Standing.{Standing, head-is, name-is, tail-link}
 use Rattle.layout.proofs.Image.{standing, image-empty}
@@ -23,6 +23,7 @@ use Rattle.layout.proofs.Append.{append-length, image-posting}
 use Rattle.layout.proofs.Open.{open-length, image-term}
 use Rattle.layout.proofs.Reading.{reads-chain}
 pub use Rattle.layout.proofs.Chains.{Holds, holds-put, holds-chain, reach-puts, blocks-prescribed}
+pub use Rattle.layout.proofs.Held.{chain-reach, chain-holds}
 pub use Rattle.layout.proofs.Arena.{store-other}
 pub use Rattle.layout.proofs.Linked.{old-term, new-term, used-term}
 pub use Rattle.layout.proofs.Image.{heads-apart}
@@ -30,6 +31,7 @@ pub use Rattle.layout.proofs.Image.{heads-apart}
 -- ---- what the arena says of a term
 
 module _ {a : List ℕ} {ix : Index} (im : Image a ix) (l : Linked ix) (i : ℕ) (hi : i < length (ix .terms)) where
+  -- the fields that document 01 names, by the postings
   pub fields : Fields a (termAt ix i)
   unfolding headFor
   fields =
@@ -57,6 +59,7 @@ terms-term ix name p = rw length-append (omega arith)
 
 -- ---- from one index to the next
 
+-- heads that keep their block and their name are found with that name
 onward : (a : List ℕ) (ix : Index) (a′ : List ℕ) (ix′ : Index) → Image a ix → Linked ix → Image a′ ix′ → Linked ix′ → Keeps ix ix′
     → length a′ ≡ length a → Onward a ix a′ ix′
 onward a ix a′ ix′ im l im′ l′ k e =
@@ -72,6 +75,7 @@ onward a ix a′ ix′ im l im′ l′ k e =
     }
 
 module _ (a : List ℕ) (ix : Index) (im : Image a ix) (l : Linked ix) where
+  -- A NEW TERM keeps the index in its arena
   pub opens : (name : List ℕ) (p : Posting) → length name ≤ maxTerm → After 0 p → place (suc (usedOf ix)) ≤ length a
       → Onward a ix (openHead a (usedOf ix) name (p .number) (p .count)) (withTerm ix name p)
   opens name p h f room =
@@ -88,6 +92,7 @@ module _ (a : List ℕ) (ix : Index) (im : Image a ix) (l : Linked ix) where
       let o : Onward a ix (openHead a (usedOf ix) name (p .number) (p .count)) (withTerm ix name p) = opens name p h f room in
       rw (new-term ix name p) at (fields (o .image) (o .linked) (length (ix .terms)) (rw terms-term (omega arith)) .name)
 
+  -- A POSTING MORE keeps the index in its arena
   pub appends : (i : ℕ) → i < length (ix .terms) → (p : Posting) → After (lastFrom 0 (postingsOf (termAt ix i))) p
       → place (usedOf (withPosting ix i p)) ≤ length a
       → Onward a ix (append a (headNo (termAt ix i)) (usedOf ix) (p .number) (p .count)) (withPosting ix i p)
@@ -101,11 +106,13 @@ module _ (a : List ℕ) (ix : Index) (im : Image a ix) (l : Linked ix) where
 -- ---- what a posting more does to the terms and to the blocks in use
 
 module _ (ix : Index) (i : ℕ) (p : Posting) where
+  -- the term has the posting more
   pub mine-posting : i < length (ix .terms) → termAt (withPosting ix i p) i
       ≡ grown (fits (headFor (termAt ix i)) (p .number) (p .count)) (usedOf ix) (termAt ix i) p
   unfolding withPosting
   mine-posting h = mine (fits (headFor (termAt ix i)) (p .number) (p .count)) ix i p h
 
+  -- every other term is as it was
   pub other-posting : i < length (ix .terms) → (m : ℕ) → (m ≡ i → ⊥) → termAt (withPosting ix i p) m ≡ termAt ix m
   unfolding withPosting
   other-posting h m ne = other (fits (headFor (termAt ix i)) (p .number) (p .count)) ix i p h m ne

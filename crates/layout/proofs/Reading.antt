@@ -26,10 +26,10 @@ use Rattle.layout.proofs.Steps.{ahead, moved, ahead-moved, reads-entry,
 
 -- ---- postings that can be read behind number n: they rise, up to reports at most, and there are enough steps
 
-pub record Readable (reports fuel n : ℕ) (ps : List Posting) : Type 0 where
-  pub rises : Rising n ps
-  pub last-le : lastFrom n ps ≤ reports
-  pub enough : length ps < fuel
+record Readable (reports fuel n : ℕ) (ps : List Posting) : Type 0 where
+  rises : Rising n ps
+  last-le : lastFrom n ps ≤ reports
+  enough : length ps < fuel
 
 after-of : {n : ℕ} {p : Posting} {ps : List Posting} → Rising n (p ∷ ps) → After n p
 after-of (next f r) = f
@@ -62,6 +62,7 @@ module _ (a : List ℕ) (used reports tail end block first left : ℕ) (some : 0
   abbrev here : ℕ → ℕ → Cursor
   here at n = cursor tail end block first left at n
 
+  -- they are read one after the other, and then what stands behind the block
   run-block : (es : List Entry) (rest : List Posting) (z fuel at n : ℕ) → first ≤ n
       → ahead a (here at n) ≡ codes es ++ replicate z 0
       → Readable reports fuel n (numbers n es ++ rest)
@@ -238,6 +239,7 @@ module _ (a : List ℕ) (used reports : ℕ) (t : Held) (st : Standing a used t)
   unfolding agreeing headFor
   agrees = rw (eq-eqb (suc (length (t .rest))) (suc (length (t .rest))) refl, eq-eqb (lastFrom 0 (postingsOf t)) (chain t .reach .last) (sym (holds .last-is)))
 
+  -- the steps from the head give them all
   reads-all : lastFrom 0 (postingsOf t) ≤ reports → run (suc reports) a used reports (atHead (headFor t) used (headNo t)) ≡ whole (postingsOf t)
   unfolding run atHead headFor numbers codes
   reads-all h =

@@ -6,12 +6,12 @@ use mathlib.Core.List.{List}
 use native.Mathlib.Omega.{arith}
 use native.Mathlib.Nat.{add-zero}
 use lib.Dec.{eqb}
-use lib.ListN.{length, getD, List·getD-eq-default}
+use lib.ListN.{length, List·getD-eq-default}
 use Rattle.basics.specs.Words.{wordAt}
 use Rattle.blocks.specs.Fields.{blockSize, headFixed, place, linkOf, headOf, nameOf}
-use Rattle.layout.specs.Held.{Held, blockNo, headNo, tailNo, chain, headFor, linkAt, written, blockBytes, codesAt}
+use Rattle.layout.specs.Held.{Held, blockNo, headNo, tailNo, chain, headFor, linkAt, written, blockBytes}
 use Rattle.layout.specs.Index.{Sound, blockAt}
-use Rattle.layout.proofs.Held.{tailAt, nos-closed}
+use Rattle.layout.proofs.Held.{nos-closed}
 use Rattle.layout.proofs.Arena.{byte-block, word-block, part-block}
 use Rattle.layout.proofs.Forms.{link-form, tail-form, last-form, postings-form, end-form, length-name-form, name-form}
 
