@@ -5,10 +5,11 @@ ghost use lib.ListN.{length};
 ghost use lib.Seq.{sets};
 ghost use Rattle.basics.specs.Words.{word, wordAt};
 
-fn wide(b: u8) -> u32
+// A byte as a number.
+pub fn wide(b: u8) -> usize
     ensures { λ r. ⌜ (r ≡ b) × (r < 256) ⌝ }
 {
-    b as u32
+    b as usize
 }
 
 // The number in the four bytes from `at` on.
@@ -16,7 +17,10 @@ pub fn read_word(s: &[u8], at: usize) -> u32
     requires { ⌜ at + 4 ≤ length (now s) ⌝ }
     ensures { λ r. ⌜ r ≡ wordAt (now (s .entry)) at ⌝ }
 {
-    wide(s[at]) * 16777216 + wide(s[at + 1]) * 65536 + wide(s[at + 2]) * 256 + wide(s[at + 3])
+    (wide(s[at]) * 16777216
+        + wide(s[at + 1]) * 65536
+        + wide(s[at + 2]) * 256
+        + wide(s[at + 3])) as u32
 }
 
 // Writes a number into the four bytes from `at` on.

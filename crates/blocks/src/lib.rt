@@ -23,12 +23,6 @@ pub struct Head {
     pub length: usize,
 }
 
-fn wide(b: u8) -> usize
-    ensures { λ r. ⌜ (r ≡ b) × (r < 256) ⌝ }
-{
-    b as usize
-}
-
 // How many blocks an arena holds.
 pub fn capacity_of(arena: &[u8]) -> u32
     ensures { λ r. ⌜ r ≡ capacity (now (arena .entry)) ⌝ }
@@ -65,8 +59,8 @@ pub fn head_of(arena: &[u8], h: u32) -> Head
         tail: basics::read_word(arena, at + 4),
         last: basics::read_word(arena, at + 8),
         postings: basics::read_word(arena, at + 12),
-        end: wide(arena[at + 16]),
-        length: wide(arena[at + 17]),
+        end: basics::wide(arena[at + 16]),
+        length: basics::wide(arena[at + 17]),
     }
 }
 

@@ -45,12 +45,6 @@ pub enum Query {
     Terms { start: u32, terms: Cursor },
 }
 
-fn wide(b: u8) -> usize
-    ensures { λ r. ⌜ (r ≡ b) × (r < 256) ⌝ }
-{
-    b as usize
-}
-
 impl Cursor {
     // The term of the field here: that part of the frame itself.
     pub fn term<'a>(self, frame: &'a [u8]) -> &'a [u8]
@@ -59,7 +53,7 @@ impl Cursor {
     {
         let at = self.at;
         let from = at + 1;
-        let to = from + wide(frame[at]);
+        let to = from + basics::wide(frame[at]);
         &frame[from..to]
     }
 
@@ -69,7 +63,7 @@ impl Cursor {
         ensures { λ r. ⌜ r ≡ countAt (now (frame .entry)) (self .at) ⌝ }
     {
         let at = self.at;
-        basics::read_word(frame, at + 1 + wide(frame[at]))
+        basics::read_word(frame, at + 1 + basics::wide(frame[at]))
     }
 
     // The cursor past the field here, which has `tail` bytes behind its term.
@@ -89,7 +83,7 @@ fn past_field(frame: &[u8], at: usize, tail: usize) -> usize
     requires { ⌜ (at < length (now frame)) × (tail ≤ countBytes) ⌝ }
     ensures { λ r. ⌜ r ≡ pastField tail (now (frame .entry)) at ⌝ }
 {
-    at + 1 + wide(frame[at]) + tail
+    at + 1 + basics::wide(frame[at]) + tail
 }
 
 // ---- the conditions
@@ -104,7 +98,7 @@ fn check_head(frame: &[u8], kind: u8) -> u8
     if frame[0] != 1 {
         return 1;
     }
-    let body = wide(frame[1]) * 256 + wide(frame[2]);
+    let body = basics::wide(frame[1]) * 256 + basics::wide(frame[2]);
     if 4096 < body {
         return 2;
     }

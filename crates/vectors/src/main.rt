@@ -15,12 +15,6 @@ use libc::STDIN_FILENO;
 use libc::STDOUT_FILENO;
 use postings::Decoded;
 
-fn wide(b: u8) -> u64
-    ensures { λ r. ⌜ r < 256 ⌝ }
-{
-    b as u64
-}
-
 fn print(text: &[u8]) {
     io::write_all(STDOUT_FILENO, text);
 }
@@ -39,7 +33,7 @@ fn print_bytes(s: &[u8]) {
     }
     let mut i: usize = 0;
     while i < s.len() {
-        print_hex(STDOUT_FILENO, wide(s[i]), 2);
+        print_hex(STDOUT_FILENO, basics::wide(s[i]) as u64, 2);
         i += 1;
     }
 }
@@ -173,7 +167,7 @@ fn frame(payload: &[u8]) {
     let kind = payload[0];
     let bytes = &payload[1..];
     print(b"frame");
-    print_number(wide(kind));
+    print_number(basics::wide(kind) as u64);
     print_bytes(bytes);
     match kind {
         1 => report_frame(bytes),
@@ -249,7 +243,7 @@ fn chain(payload: &[u8]) {
     if payload.len() == 0 {
         return;
     }
-    let from = 1 + wide(payload[0]) as usize;
+    let from = 1 + basics::wide(payload[0]);
     if payload.len() < from + 8 {
         return;
     }
@@ -297,7 +291,7 @@ fn answer_all(s: &[u8]) {
     let mut at: usize = 0;
     while at + 3 <= s.len() {
         let from = at + 3;
-        let to = from + (wide(s[at + 1]) * 256 + wide(s[at + 2])) as usize;
+        let to = from + basics::wide(s[at + 1]) * 256 + basics::wide(s[at + 2]);
         if s.len() < to {
             return;
         }

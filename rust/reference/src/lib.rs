@@ -9,14 +9,31 @@
 //! | [`postings`] | "Coding a posting" |
 //! | [`terms`] | the rules on terms in "Frames", and the hash of "Finding a term" |
 //! | [`frames`] | "Frames", and the rows Frame and Terms of "Where each refusal is checked" |
+//! | [`blocks`] | "Blocks": the fields, and writing a posting |
+//! | [`chains`] | "Blocks": reading a chain, and its damage |
+//! | [`lookup`] | "Finding a term", and its damage |
+//! | [`index`] | "Memory lent to the index", "Taking a report, listing reports", and refusals 8 to 13 |
+//! | [`ledger`] | "The plain ledger of demand 3" |
+//! | [`desk`] | "The desk program" |
+//! | [`compose`] | none: making frames for questions and tests |
+//! | [`draws`] | none: drawn numbers for questions and tests |
 //! | [`vectors`] | none: questions for both implementations, and answers |
 //!
 //! The program `write-vectors` stores the questions and answers in two files, `stdin` and `stdout`.
+//! The program `reference-desk` is the desk program.
 
 #![forbid(unsafe_code)]
 #![warn(missing_docs)]
 
+pub mod blocks;
+pub mod chains;
+pub mod compose;
+pub mod desk;
+pub mod draws;
 pub mod frames;
+pub mod index;
+pub mod ledger;
+pub mod lookup;
 pub mod postings;
 pub mod terms;
 pub mod vectors;

@@ -8,7 +8,11 @@
 //! own generator from its own fixed seed, so that leaving out or changing one sort leaves the
 //! others as they are.
 
+use crate::blocks::{self, End, BLOCK_BYTES};
+use crate::compose::{framed, query_body, query_frame, report_body, report_frame, term_field};
+use crate::draws::Draws;
 use crate::frames::{self, Call, Meaning};
+use crate::index::{self, Counters};
 use crate::postings::{self, Posting, LARGEST_FIRST, LARGEST_SECOND};
 use crate::terms;
 
@@ -40,6 +44,7 @@ pub const SORTS: &[Sort] = &[
     Sort::new(3, decode_questions, decode_answer),
     Sort::new(4, term_questions, term_answer),
     Sort::new(5, frame_questions, frame_answer),
+    Sort::new(6, block_questions, block_answer),
 ];
 
 /// The content of the file of questions.
@@ -96,72 +101,6 @@ fn without_repeats(payloads: Vec<Vec<u8>>) -> Vec<Vec<u8>> {
 /// The parts one after another.
 fn joined(parts: &[&[u8]]) -> Vec<u8> {
     parts.concat()
-}
-
-/// A generator of numbers that only look random: the xorshift of Marsaglia with 64 bits and the
-/// shifts 13, 7 and 17.
-struct Draws {
-    state: u64,
-}
-
-impl Draws {
-    /// A generator that starts from `seed`, which must not be 0.
-    fn new(seed: u64) -> Draws {
-        assert!(seed != 0, "the generator would give nothing but 0");
-        Draws { state: seed }
-    }
-
-    /// The next number of the generator.
-    fn next(&mut self) -> u64 {
-        self.state ^= self.state << 13;
-        self.state ^= self.state >> 7;
-        self.state ^= self.state << 17;
-        self.state
-    }
-
-    /// A number below `bound`, which must not be 0.
-    fn below(&mut self, bound: u64) -> u64 {
-        (self.next() >> 16) % bound
-    }
-
-    /// A number from `least` to `greatest`.
-    fn between(&mut self, least: usize, greatest: usize) -> usize {
-        least + self.below((greatest - least + 1) as u64) as usize
-    }
-
-    /// Any byte.
-    fn byte(&mut self) -> u8 {
-        self.below(256) as u8
-    }
-
-    /// `length` bytes, each any byte.
-    fn bytes(&mut self, length: usize) -> Vec<u8> {
-        (0..length).map(|_| self.byte()).collect()
-    }
-
-    /// A number from 1 to 4,294,967,295. All bit lengths are equally likely.
-    fn number(&mut self) -> u32 {
-        let bits = self.between(0, 31);
-        let least = 1u64 << bits;
-        (least + self.below(least)) as u32
-    }
-
-    /// A posting. Half of all counts are drawn from 1 to 7, so that both forms of a code are
-    /// common.
-    fn posting(&mut self) -> Posting {
-        let gap = self.number();
-        let count = if self.below(2) == 0 {
-            1 + self.below(7) as u32
-        } else {
-            self.number()
-        };
-        Posting::new(gap, count).expect("drawn numbers are not 0")
-    }
-
-    /// `length` bytes that a term may hold, capitals among them.
-    fn term(&mut self, length: usize) -> Vec<u8> {
-        (0..length).map(|_| 0x21 + self.below(94) as u8).collect()
-    }
 }
 
 /// Sort 1: the published byte strings, then strings with other bytes and other lengths.
@@ -593,38 +532,6 @@ fn body_payload(call: Call, body: &[u8]) -> Vec<u8> {
     frame_payload(call, &framed(body))
 }
 
-/// A frame with this body, the version and the right length field.
-fn framed(body: &[u8]) -> Vec<u8> {
-    let length = u16::try_from(body.len()).expect("a body has at most 65,535 bytes");
-    joined(&[&[0x01], &length.to_be_bytes(), body])
-}
-
-/// A length byte and the term.
-fn term_field(term: &[u8]) -> Vec<u8> {
-    let length = u8::try_from(term.len()).expect("a length byte is at most 255");
-    joined(&[&[length], term])
-}
-
-/// The body of a report.
-fn report_body(lines: &[(&[u8], u32)]) -> Vec<u8> {
-    let mut body = vec![Call::Report.kind()];
-    for (term, count) in lines {
-        body.extend(term_field(term));
-        body.extend(count.to_be_bytes());
-    }
-    body
-}
-
-/// The body of a query.
-fn query_body(call: Call, start: u32, terms: &[&[u8]]) -> Vec<u8> {
-    let mut body = vec![call.kind()];
-    body.extend(start.to_be_bytes());
-    for term in terms {
-        body.extend(term_field(term));
-    }
-    body
-}
-
 /// A set of refusals that a frame is made to give cause for. Bit n of the number stands for refusal
 /// n.
 #[derive(Clone, Copy)]
@@ -1037,9 +944,899 @@ pub fn frame_answer(payload: &[u8]) -> String {
     format!("frame {} {} {meaning}", call.kind(), hex(frame))
 }
 
+/// Sort 6: chains around each join. In a head and in a later block, a posting of each length ends at
+/// byte 63 or would end one byte later. Then come b-gaps that take more bytes than the d-gap would
+/// have, many joins in a row, chains of one posting, and drawn chains.
+pub fn block_questions() -> Vec<Vec<u8>> {
+    let mut payloads = vec![marked_chain()];
+    for term_length in [1, 2, 18, 35, 36] {
+        for code_length in 1..=10 {
+            payloads.push(chain_with_joins(term_length, code_length, true));
+            payloads.push(chain_with_joins(term_length, code_length, false));
+        }
+    }
+    payloads.extend(long_b_gap_chains());
+    payloads.extend(chains_of_many_blocks());
+    payloads.extend(chains_of_one_posting());
+    payloads.extend(drawn_chains());
+    without_repeats(payloads)
+}
+
+/// A chain while its question is made.
+struct Chain {
+    term: Vec<u8>,
+    /// The numbers and counts so far.
+    postings: Vec<(u32, u32)>,
+    /// The blocks that they take.
+    arena: Vec<u8>,
+}
+
+impl Chain {
+    /// A chain without postings for a term of this length.
+    fn new(term_length: usize) -> Chain {
+        let letters = b"abcdefghijklmnopqrstuvwxyz".iter().cycle();
+        let term = letters.skip(term_length % 26).take(term_length).copied();
+        Chain {
+            term: term.collect(),
+            postings: Vec::new(),
+            arena: Vec::new(),
+        }
+    }
+
+    /// Adds the report that lies `gap` past the last one.
+    fn add(&mut self, gap: u32, count: u32) {
+        let last = self.postings.last().map_or(0, |(number, _)| *number);
+        let number = last.checked_add(gap).expect("a report number");
+        self.postings.push((number, count));
+        extend_chain(&mut self.arena, &self.term, number, count);
+    }
+
+    /// How many bytes are left for postings in the tail.
+    fn room(&self) -> usize {
+        match End::of(&self.arena, 0) {
+            Some(end) => BLOCK_BYTES - usize::from(end.head.offset),
+            None => BLOCK_BYTES - 18 - self.term.len(),
+        }
+    }
+
+    /// Adds reports with gaps of 1 until `left` bytes are left in the tail.
+    fn fill(&mut self, left: usize) {
+        let mut too_many = self.room().saturating_sub(left);
+        while too_many > 0 {
+            let length = too_many.min(6);
+            self.add(1, SHORT_GAP_COUNTS[length - 1]);
+            too_many -= length;
+        }
+    }
+
+    /// The payload of the question.
+    fn payload(&self) -> Vec<u8> {
+        let mut payload = term_field(&self.term);
+        for (number, count) in &self.postings {
+            payload.extend(code_payload(*number, *count));
+        }
+        payload
+    }
+}
+
+/// The least counts with which a gap of 1 takes 1 to 6 bytes.
+const SHORT_GAP_COUNTS: [u32; 6] = [1, 4, 131, 16_387, 2_097_155, 268_435_459];
+
+/// A count that takes 5 bytes beside the gap.
+const LONG_COUNT: u32 = 268_435_459;
+
+/// The least gaps that take 1 to 5 bytes when the count has a value of its own.
+const GAPS_BEFORE_COUNTS: [u32; 5] = [1, 32, 4_096, 524_288, 67_108_864];
+
+/// A gap and a count whose code takes this many bytes, 1 to 10. The gap takes as few of them as it
+/// can.
+fn posting_with_short_gap(code_length: usize) -> (u32, u32) {
+    match code_length {
+        1..=6 => (1, SHORT_GAP_COUNTS[code_length - 1]),
+        _ => (GAPS_BEFORE_COUNTS[code_length - 6], LONG_COUNT),
+    }
+}
+
+/// A gap and a count whose code takes this many bytes, 1 to 10. The gap takes as many of them as it
+/// can.
+fn posting_with_long_gap(code_length: usize) -> (u32, u32) {
+    match code_length {
+        1..=5 => (GAPS_BEFORE_COUNTS[code_length - 1] + 1, 1),
+        _ => (67_108_864, SHORT_GAP_COUNTS[code_length - 5]),
+    }
+}
+
+/// Puts a report at the end of the chain that begins in block 0. A block that is needed is put at
+/// the end of the arena.
+fn extend_chain(arena: &mut Vec<u8>, term: &[u8], number: u32, count: u32) {
+    let end = End::of(arena, 0);
+    let fits = end.is_some_and(|end| end.fits(number, count));
+    let next = blocks::capacity(arena.len());
+    if !fits {
+        arena.resize(arena.len() + BLOCK_BYTES, 0);
+    }
+    let written = match end {
+        None => blocks::open_head(arena, next, term, number, count),
+        Some(_) if fits => blocks::add_posting(arena, 0, number, count),
+        Some(_) => blocks::open_next(arena, 0, next, number, count),
+    };
+    written.expect("a question of sort 6 has a term, ascending numbers and no count of 0");
+}
+
+/// The chain that document 01 marks: a term of 36 bytes in reports 1 to 11, each with a count of 1.
+fn marked_chain() -> Vec<u8> {
+    let mut chain = Chain::new(36);
+    for _ in 0..11 {
+        chain.add(1, 1);
+    }
+    chain.payload()
+}
+
+/// A chain in which a posting of this length just fits into the head and another just does not fit
+/// into the block after it, or the other way round.
+fn chain_with_joins(term_length: usize, code_length: usize, fits_in_head: bool) -> Vec<u8> {
+    let mut chain = Chain::new(term_length);
+    let missing = usize::from(!fits_in_head);
+    chain.fill(code_length - missing);
+    let (gap, count) = posting_with_short_gap(code_length);
+    chain.add(gap, count);
+    if fits_in_head {
+        chain.add(2, 3);
+    }
+    chain.fill(code_length - (1 - missing));
+    let (gap, count) = posting_with_long_gap(code_length);
+    chain.add(gap, count);
+    chain.add(3, 2);
+    chain.payload()
+}
+
+/// Chains with a gap of each length inside a block, so that the b-gap that opens the next block
+/// takes at least as many bytes, though its d-gap is 1. The count takes no byte, 1 byte or 5 bytes
+/// of its own.
+fn long_b_gap_chains() -> Vec<Vec<u8>> {
+    let mut payloads = Vec::new();
+    for gap_before in GAPS_BEFORE_COUNTS {
+        for count in [3, 4, LONG_COUNT] {
+            let mut chain = Chain::new(31);
+            for _ in 0..2 {
+                chain.add(1, 2);
+                chain.add(gap_before, 1);
+                chain.fill(0);
+                chain.add(1, count);
+            }
+            payloads.push(chain.payload());
+        }
+    }
+    payloads
+}
+
+/// Chains of 4 to 24 blocks.
+fn chains_of_many_blocks() -> Vec<Vec<u8>> {
+    let mut payloads = Vec::new();
+    for (term_length, code_length, blocks) in [
+        (36, 10, 8),
+        (1, 9, 24),
+        (35, 8, 10),
+        (20, 7, 9),
+        (9, 6, 6),
+        (36, 1, 4),
+    ] {
+        let mut chain = Chain::new(term_length);
+        let (gap, count) = posting_with_short_gap(code_length);
+        while chain.arena.len() < blocks * BLOCK_BYTES {
+            chain.add(gap, count);
+        }
+        payloads.push(chain.payload());
+    }
+    payloads
+}
+
+/// Chains of one posting, and of two with the second in a block of its own.
+fn chains_of_one_posting() -> Vec<Vec<u8>> {
+    let mut payloads = Vec::new();
+    for (term_length, gap, count) in [
+        (1, 1, 1),
+        (3, 33, 1),
+        (7, 1, 131),
+        (34, u32::MAX, 1),
+        (36, u32::MAX, u32::MAX),
+    ] {
+        let mut chain = Chain::new(term_length);
+        chain.add(gap, count);
+        payloads.push(chain.payload());
+    }
+    let mut chain = Chain::new(36);
+    chain.add(u32::MAX - 1, u32::MAX);
+    chain.add(1, u32::MAX);
+    payloads.push(chain.payload());
+    payloads
+}
+
+/// Chains with drawn terms, gaps of up to 25 bits and drawn counts.
+fn drawn_chains() -> Vec<Vec<u8>> {
+    let mut draws = Draws::new(0x0606_2026);
+    let mut payloads = Vec::new();
+    for _ in 0..12 {
+        let term_length = draws.between(1, 36);
+        let mut chain = Chain::new(term_length);
+        chain.term = draws.term(term_length).to_ascii_lowercase();
+        for _ in 0..draws.between(8, 40) {
+            let posting = draws.posting();
+            chain.add(1 + (posting.gap() >> 7), posting.count());
+        }
+        payloads.push(chain.payload());
+    }
+    payloads
+}
+
+/// The term and the postings of a question of sort 6.
+fn read_chain(payload: &[u8]) -> (&[u8], Vec<(u32, u32)>) {
+    let (term, postings) = payload[1..].split_at(usize::from(payload[0]));
+    let postings = postings
+        .chunks_exact(8)
+        .map(|fields| (number_at(fields, 0), number_at(fields, 4)));
+    (term, postings.collect())
+}
+
+/// The answer to a question of sort 6.
+pub fn block_answer(payload: &[u8]) -> String {
+    let (term, postings) = read_chain(payload);
+    let mut arena = Vec::new();
+    let mut text = format!("blocks {}", hex(term));
+    for (number, count) in postings {
+        extend_chain(&mut arena, term, number, count);
+        text.push_str(&format!(" {number}:{count}"));
+    }
+    text.push(' ');
+    text.push_str(&hex(&arena));
+    text
+}
+
+/// Sort 7: lists of calls. Each function gives the lists around one rule.
+pub fn call_questions() -> Vec<Vec<u8>> {
+    let mut payloads = Vec::new();
+    payloads.extend(desk_calls());
+    payloads.extend(empty_index_calls());
+    payloads.extend(table_size_calls());
+    payloads.extend(arena_size_calls());
+    payloads.extend(join_calls());
+    payloads.extend(wide_gap_calls());
+    payloads.extend(refused_frame_calls());
+    payloads.extend(slot_calls());
+    payloads.extend(start_number_calls());
+    payloads.extend(list_length_calls());
+    payloads.extend(all_terms_calls());
+    payloads.extend(restart_calls());
+    payloads.extend(drawn_calls());
+    without_repeats(payloads)
+}
+
+/// The byte that stands for a start in a list of calls.
+const START: u8 = 0;
+
+/// A list of calls while its question is made.
+#[derive(Clone)]
+struct Calls {
+    payload: Vec<u8>,
+}
+
+impl Calls {
+    /// No calls yet, on an arena of this many blocks, a table of this many entries and lists of
+    /// this many places.
+    fn on(blocks: u16, entries: u16, places: u8) -> Calls {
+        Calls {
+            payload: joined(&[&blocks.to_be_bytes(), &entries.to_be_bytes(), &[places]]),
+        }
+    }
+
+    fn start(mut self) -> Calls {
+        self.payload.push(START);
+        self
+    }
+
+    fn frame(mut self, call: Call, frame: &[u8]) -> Calls {
+        let length = u16::try_from(frame.len()).expect("a frame has at most 65,535 bytes");
+        self.payload.push(call.kind());
+        self.payload.extend(length.to_be_bytes());
+        self.payload.extend(frame);
+        self
+    }
+
+    fn report(self, lines: &[(&[u8], u32)]) -> Calls {
+        self.frame(Call::Report, &report_frame(lines))
+    }
+
+    /// The same report several times.
+    fn reports(self, number: usize, lines: &[(&[u8], u32)]) -> Calls {
+        (0..number).fold(self, |calls, _| calls.report(lines))
+    }
+
+    fn one(self, start: u32, term: &[u8]) -> Calls {
+        self.frame(Call::OneTerm, &query_frame(Call::OneTerm, start, &[term]))
+    }
+
+    fn all(self, start: u32, terms: &[&[u8]]) -> Calls {
+        self.frame(Call::AllTerms, &query_frame(Call::AllTerms, start, terms))
+    }
+}
+
+/// The payloads of these lists.
+fn payloads_of<const N: usize>(lists: [Calls; N]) -> Vec<Vec<u8>> {
+    lists.map(|calls| calls.payload).to_vec()
+}
+
+/// The frames that document 01 gives as input of the desk program, on more memory than they need, on
+/// exactly as much, and with lists of one place too few.
+fn desk_calls() -> Vec<Vec<u8>> {
+    let desk = |calls: Calls| {
+        calls
+            .report(&[(b"zn", 3), (b"P17", 1)])
+            .report(&[(b"zn", 4)])
+            .one(0, b"zn")
+            .all(0, &[b"zn", b"p17"])
+    };
+    payloads_of([
+        desk(Calls::on(12, 24, 16)),
+        desk(Calls::on(2, 4, 2)),
+        desk(Calls::on(2, 5, 1)),
+    ])
+}
+
+/// No calls, nothing but starts, and listings and reports without lines where no term is known.
+fn empty_index_calls() -> Vec<Vec<u8>> {
+    let unknown = |calls: Calls| {
+        calls
+            .one(0, b"a")
+            .report(&[])
+            .all(1, &[b"a", b"b"])
+            .report(&[])
+            .one(2, b"B")
+            .start()
+            .report(&[])
+    };
+    payloads_of([
+        Calls::on(0, 0, 0),
+        Calls::on(1, 3, 1).start().start(),
+        unknown(Calls::on(0, 0, 0)),
+        unknown(Calls::on(1, 1, 1)),
+        unknown(Calls::on(2, 2, 3)),
+    ])
+}
+
+/// Tables of few entries, which hold none to three terms, with more blocks than are needed.
+fn table_size_calls() -> Vec<Vec<u8>> {
+    let mut payloads = Vec::new();
+    for entries in [0, 1, 2, 3, 4, 5, 7] {
+        let calls = Calls::on(6, entries, 4)
+            .report(&[(b"a", 1), (b"b", 2), (b"c", 3), (b"d", 4)])
+            .report(&[(b"a", 5)])
+            .report(&[(b"a", 1), (b"b", 6), (b"c", 7)])
+            .report(&[(b"b", 8)])
+            .report(&[])
+            .report(&[(b"b", 1), (b"c", 9)])
+            .report(&[(b"c", 10), (b"a", 3)])
+            .one(0, b"a")
+            .one(0, b"b")
+            .all(0, &[b"a", b"c"]);
+        payloads.push(calls.payload);
+    }
+    payloads
+}
+
+/// Arenas of few blocks, with more table entries than are needed. Reports that lack a block for their
+/// last line leave nothing behind.
+fn arena_size_calls() -> Vec<Vec<u8>> {
+    let mut payloads = Vec::new();
+    for blocks in [0, 1, 2, 3, 4] {
+        let calls = Calls::on(blocks, 24, 4)
+            .report(&[(b"e", 1), (b"f", 1), (b"g", 1), (b"h", 1), (b"i", 1)])
+            .report(&[(b"a", 2)])
+            .report(&[(b"a", 9), (b"b", 1), (b"c", 3)])
+            .report(&[(b"b", 200)])
+            .report(&[(b"b", 1), (b"a", 1), (b"d", 1)])
+            .report(&[(b"b", 7), (b"a", 8)])
+            .report(&[(b"c", 5)])
+            .all(0, &[b"a", b"b"])
+            .one(2, b"c");
+        payloads.push(calls.payload);
+    }
+    payloads
+}
+
+/// A term of 36 bytes: its head has room for ten bytes of postings.
+const LONG_TERM: &[u8] = b"abcdefghijklmnopqrstuvwxyz0123456789";
+
+/// Chains of several blocks, and reports that lack a block for a join.
+fn join_calls() -> Vec<Vec<u8>> {
+    let marked = |blocks| {
+        Calls::on(blocks, 2, 12)
+            .reports(11, &[(LONG_TERM, 1)])
+            .report(&[])
+            .one(0, LONG_TERM)
+            .one(11, LONG_TERM)
+    };
+    // 6 bytes and 4 fill the head; 5 and 5 do too; after 6 and 3, two more do not fit.
+    let exact = |first, second, third| {
+        Calls::on(3, 3, 4)
+            .report(&[(LONG_TERM, first)])
+            .report(&[(LONG_TERM, second)])
+            .report(&[(LONG_TERM, third)])
+            .report(&[(LONG_TERM, 1)])
+            .one(0, LONG_TERM)
+    };
+    // Both terms need a block in report 2. Two blocks are used.
+    let both = |blocks| {
+        Calls::on(blocks, 4, 4)
+            .report(&[(LONG_TERM, LONG_COUNT), (&[b'~'; 36], LONG_COUNT)])
+            .report(&[(LONG_TERM, LONG_COUNT), (&[b'~'; 36], LONG_COUNT)])
+            .report(&[(&[b'~'; 36], LONG_COUNT)])
+            .report(&[(LONG_TERM, 1), (&[b'~'; 36], 1)])
+            .all(0, &[LONG_TERM, &[b'~'; 36]])
+    };
+    payloads_of([
+        marked(2),
+        marked(1),
+        exact(LONG_COUNT, 16_387, 1),
+        exact(2_097_155, 2_097_155, 4),
+        exact(LONG_COUNT, 131, 4),
+        both(2),
+        both(3),
+        both(4),
+        Calls::on(3, 2, 3).reports(48, &[(b"q", 2)]).one(44, b"q"),
+        // Report 48 needs two blocks, and one is left: `x` alone then takes it.
+        Calls::on(11, 4, 7)
+            .reports(49, &[(b"x", LONG_COUNT), (b"yy", LONG_COUNT)])
+            .report(&[(b"x", LONG_COUNT)])
+            .report(&[(b"yy", LONG_COUNT)])
+            .all(40, &[b"yy", b"x"])
+            .one(46, b"x"),
+        Calls::on(11, 24, 2)
+            .reports(7, &[(b"k", u32::MAX), (&[b'm'; 30], u32::MAX), (b"!!", 2)])
+            .one(6, b"!!"),
+    ])
+}
+
+/// Reports without lines between others, so that gaps take two bytes, in a block and at its front.
+fn wide_gap_calls() -> Vec<Vec<u8>> {
+    payloads_of([
+        Calls::on(3, 2, 5)
+            .report(&[(LONG_TERM, LONG_COUNT)])
+            .reports(40, &[])
+            .report(&[(LONG_TERM, 1)])
+            .report(&[(LONG_TERM, 131)])
+            .report(&[(LONG_TERM, 1)])
+            .one(0, LONG_TERM),
+        Calls::on(4, 5, 5)
+            .reports(33, &[])
+            .report(&[(LONG_TERM, LONG_COUNT), (b"n", 3)])
+            .report(&[(LONG_TERM, 16_387), (b"n", 4)])
+            .reports(31, &[])
+            .report(&[(b"n", 1), (LONG_TERM, 3)])
+            .reports(32, &[])
+            .report(&[(LONG_TERM, 4), (b"n", 2)])
+            .all(34, &[b"n", LONG_TERM])
+            .one(35, LONG_TERM),
+    ])
+}
+
+/// Frames with each fault, between sound ones, on an index that can take reports and on one that
+/// can take none.
+fn refused_frame_calls() -> Vec<Vec<u8>> {
+    let sound = report_frame(&[(b"a", 1)]);
+    let one = query_frame(Call::OneTerm, 0, &[b"a"]);
+    let all = query_frame(Call::AllTerms, 0, &[b"a", b"b"]);
+    let mut reports = Vec::new();
+    let mut queries = Vec::new();
+    for (blocks, entries) in [(2, 4), (0, 0)] {
+        let mut calls = Calls::on(blocks, entries, 3).frame(Call::Report, &sound);
+        for frame in faulty_report_frames() {
+            calls = calls.frame(Call::Report, &frame);
+        }
+        calls = calls.frame(Call::OneTerm, &one).frame(Call::Report, &sound);
+        reports.push(calls.payload);
+        let mut calls = Calls::on(blocks, entries, 3).frame(Call::Report, &sound);
+        for (call, frame) in [(Call::OneTerm, &one), (Call::AllTerms, &all)] {
+            for changed in faulty_query_frames(frame) {
+                calls = calls.frame(call, &changed);
+            }
+            calls = calls.frame(call, frame);
+        }
+        queries.push(calls.payload);
+    }
+    let mut kinds = Calls::on(2, 4, 3);
+    for call in [Call::Report, Call::OneTerm, Call::AllTerms] {
+        for frame in [&sound, &one, &all, &framed(&[4])] {
+            kinds = kinds.frame(call, frame);
+        }
+    }
+    [reports, queries, vec![kinds.payload]].concat()
+}
+
+/// Reports with refusals 1 to 7, some of them with a sound line before the fault.
+fn faulty_report_frames() -> Vec<Vec<u8>> {
+    vec![
+        vec![],
+        vec![0x01, 0x00, 0x01],
+        vec![0x02, 0x00, 0x01, 0x01],
+        vec![0x01, 0x00, 0x02, 0x01],
+        vec![0x01, 0x10, 0x01, 0x01],
+        framed(&[0x02]),
+        framed(&[0x01, 1, b'b']),
+        report_frame(&[(b"b", 1), (b"", 1)]),
+        report_frame(&[(b"b", 1), (b"c c", 1)]),
+        report_frame(&[(&[b'b'; 37], 1)]),
+        report_frame(&[(b"b", 1), (b"c", 0)]),
+        report_frame(&[(b"b", 1), (b"c", 1), (b"B", 1)]),
+    ]
+}
+
+/// A query with refusals 1 to 5.
+fn faulty_query_frames(frame: &[u8]) -> Vec<Vec<u8>> {
+    let body = &frame[3..];
+    let mut other_version = frame.to_vec();
+    other_version[0] = 0x00;
+    let mut barred = frame.to_vec();
+    barred[9] = 0x7F;
+    vec![
+        frame[..3].to_vec(),
+        other_version,
+        joined(&[frame, &[0]]),
+        framed(&[0x01]),
+        framed(&body[..4]),
+        framed(&body[..5]),
+        framed(&joined(&[body, &[2, b'x']])),
+        barred,
+    ]
+}
+
+/// Terms that meet in the table. By 8, `c`, `fo` and `hi` leave 2, and `foo` and `foob` leave 7, so
+/// that a search goes from the last slot to the first.
+fn slot_calls() -> Vec<Vec<u8>> {
+    let meeting: [(&[u8], u32); 4] = [(b"fo", 1), (b"c", 2), (b"hi", 3), (b"foob", 4)];
+    let from_last: [(&[u8], u32); 4] = [(b"foob", 1), (b"foo", 2), (b"e", 3), (b"f", 4)];
+    let letters = b"abcdefghijklm";
+    let twelve: Vec<(&[u8], u32)> = letters[..12]
+        .chunks(1)
+        .map(|letter| (letter, u32::from(letter[0])))
+        .collect();
+    let full = |blocks, entries| {
+        Calls::on(blocks, entries, 3)
+            .report(&twelve[..7])
+            .report(&twelve[5..])
+            .report(&[(b"m", 1)])
+            .report(&[(b"l", 1), (b"A", 1)])
+            .all(0, &[b"F", b"G"])
+            .one(0, b"m")
+    };
+    let front: [(&[u8], u32); 3] = [(b"Aa", 1), (b"a", 2), (b"aAA", 3)];
+    payloads_of([
+        Calls::on(5, 8, 3)
+            .report(&meeting)
+            .report(&meeting[1..])
+            .one(0, b"hi")
+            .one(0, b"c"),
+        Calls::on(5, 8, 3)
+            .report(&from_last)
+            .report(&from_last[..2])
+            .one(2, b"foo")
+            .one(0, b"E"),
+        Calls::on(5, 9, 3)
+            .report(&from_last)
+            .report(&meeting)
+            .all(0, &[b"foob", b"fo"]),
+        full(12, 24),
+        full(12, 23),
+        full(11, 24),
+        Calls::on(4, 11, 3)
+            .report(&front)
+            .report(&front[..1])
+            .one(0, b"AA")
+            .all(1, &[b"a", b"aaa"]),
+    ])
+}
+
+/// Six reports: `a` in all, `b` in the even ones, `c` in report 5.
+fn six_reports(calls: Calls) -> Calls {
+    calls
+        .report(&[(b"a", 1)])
+        .report(&[(b"a", 3), (b"b", 4)])
+        .report(&[(b"a", 130)])
+        .report(&[(b"b", 131), (b"a", 16_386)])
+        .report(&[(b"a", 16_387), (b"c", u32::MAX)])
+        .report(&[(b"a", u32::MAX - 1), (b"B", 268_435_458)])
+}
+
+/// Listings from each start.
+fn start_number_calls() -> Vec<Vec<u8>> {
+    let mut one = six_reports(Calls::on(3, 6, 9));
+    let mut all = one.clone();
+    for start in [0, 1, 2, 3, 5, 6, 7, 8, 256, u32::MAX] {
+        one = one.one(start, b"a");
+        all = all.all(start, &[b"a", b"b"]);
+    }
+    payloads_of([one, all])
+}
+
+/// Lists of each length, with fewer, as many and more places than there are reports.
+fn list_length_calls() -> Vec<Vec<u8>> {
+    let mut payloads = Vec::new();
+    for places in [0, 1, 2, 3, 6, 7, 255] {
+        let calls = six_reports(Calls::on(3, 6, places))
+            .one(0, b"a")
+            .one(2, b"a")
+            .one(6, b"a")
+            .one(7, b"a")
+            .all(0, &[b"b"])
+            .all(3, &[b"a", b"b"])
+            .all(0, &[b"a", b"c"])
+            .one(0, b"x");
+        payloads.push(calls.payload);
+    }
+    payloads
+}
+
+/// Queries for several terms, some of them unknown or named twice.
+fn all_terms_calls() -> Vec<Vec<u8>> {
+    let named_twice = six_reports(Calls::on(3, 6, 4))
+        .all(0, &[b"b", b"b"])
+        .all(0, &[b"c", b"A", b"C", b"a"])
+        .all(0, &[b"b", b"a", b"B", b"A", b"b", b"a", b"B", b"A"])
+        .all(0, &[b"x", b"x"]);
+    let unknown = six_reports(Calls::on(3, 6, 4))
+        .all(0, &[b"x", b"a"])
+        .all(0, &[b"a", b"x"])
+        .all(0, &[b"b", b"x", b"c"])
+        .all(0, &[b"b", b"c"])
+        .all(0, &[b"aa"])
+        .one(0, b"ab");
+    let eight: Vec<&[u8]> = NINE_TERMS[..8].to_vec();
+    let lines: Vec<(&[u8], u32)> = eight.iter().map(|term| (*term, 1)).collect();
+    let many = Calls::on(9, 16, 3)
+        .report(&lines)
+        .report(&lines[1..])
+        .report(&lines)
+        .report(&lines[..7])
+        .report(&lines)
+        .all(0, &eight)
+        .all(2, &eight[1..])
+        .all(0, &NINE_TERMS);
+    payloads_of([named_twice, unknown, many])
+}
+
+/// Calls after a second start. The blocks keep what they held until they are taken again.
+fn restart_calls() -> Vec<Vec<u8>> {
+    let long_before = Calls::on(3, 4, 4)
+        .reports(12, &[(LONG_TERM, 130)])
+        .start()
+        .one(0, LONG_TERM)
+        .report(&[(b"s", 1)])
+        .report(&[(b"s", 2), (LONG_TERM, 3)])
+        .one(0, b"s");
+    let full_before = Calls::on(2, 4, 4)
+        .report(&[(b"a", 1), (b"b", 1)])
+        .report(&[(b"c", 1)])
+        .start()
+        .report(&[(b"c", 1)])
+        .report(&[(b"c", 2), (b"a", 3)])
+        .report(&[(b"b", 3)])
+        .all(0, &[b"a", b"c"]);
+    let ended = six_reports(Calls::on(3, 6, 4)).start();
+    payloads_of([long_before, full_before, ended])
+}
+
+/// Drawn calls, mostly reports, on drawn memory with few terms.
+fn drawn_calls() -> Vec<Vec<u8>> {
+    let mut draws = Draws::new(0x0707_2026);
+    let mut payloads = Vec::new();
+    for _ in 0..8 {
+        let blocks = draws.between(1, 12) as u16;
+        let entries = draws.between(2, 24) as u16;
+        let mut calls = Calls::on(blocks, entries, draws.below(7) as u8);
+        let words: Vec<Vec<u8>> = (0..draws.between(1, 5))
+            .map(|_| drawn_word(&mut draws))
+            .collect();
+        for number in 0..draws.between(20, 34) {
+            calls = drawn_call(&mut draws, calls, &words, number as u64);
+        }
+        payloads.push(calls.payload);
+    }
+    payloads
+}
+
+/// A term of 1 to 4 or of 30 to 36 bytes.
+fn drawn_word(draws: &mut Draws) -> Vec<u8> {
+    let length = match draws.below(4) {
+        0 => draws.between(30, 36),
+        _ => draws.between(1, 4),
+    };
+    draws.term(length)
+}
+
+/// Adds a drawn call. A report may have one term twice, and seldom a frame has a changed byte.
+fn drawn_call(draws: &mut Draws, calls: Calls, words: &[Vec<u8>], number: u64) -> Calls {
+    let call = match draws.below(9) {
+        0 => Call::OneTerm,
+        1 => Call::AllTerms,
+        2 if draws.below(6) == 0 => return calls.start(),
+        _ => Call::Report,
+    };
+    let most = if call == Call::OneTerm {
+        1
+    } else {
+        words.len().min(3)
+    };
+    let first = draws.between(0, words.len() - 1);
+    let terms = words
+        .iter()
+        .cycle()
+        .skip(first)
+        .take(draws.between(1, most));
+    let terms: Vec<&[u8]> = terms.map(|word| &word[..]).collect();
+    let mut frame = match call {
+        Call::Report => {
+            let lines = terms.iter().map(|term| (*term, draws.posting().count()));
+            report_frame(&lines.collect::<Vec<_>>())
+        }
+        _ => query_frame(call, draws.below(number + 1) as u32, &terms),
+    };
+    if draws.below(25) == 0 {
+        change(draws, &mut frame);
+    }
+    calls.frame(call, &frame)
+}
+
+/// A call of a question of sort 7.
+enum AskedCall<'a> {
+    Start,
+    Frame(Call, &'a [u8]),
+}
+
+/// The calls of a question of sort 7.
+fn read_calls(payload: &[u8]) -> Vec<AskedCall<'_>> {
+    let mut calls = Vec::new();
+    let mut rest = &payload[5..];
+    while let Some((kind, after)) = rest.split_first() {
+        if *kind == START {
+            calls.push(AskedCall::Start);
+            rest = after;
+            continue;
+        }
+        let call = Call::of_kind(*kind).expect("a question of sort 7 has calls from 0 to 3");
+        let length = usize::from(u16::from_be_bytes([after[0], after[1]]));
+        let (frame, after) = after[2..].split_at(length);
+        calls.push(AskedCall::Frame(call, frame));
+        rest = after;
+    }
+    calls
+}
+
+/// The answer to a question of sort 7.
+pub fn call_answer(payload: &[u8]) -> String {
+    let mut text = format!("calls {}", hex(payload));
+    let mut memory = LentMemory::new(payload);
+    for call in read_calls(payload) {
+        text.push_str(&match call {
+            AskedCall::Start => memory.start(),
+            AskedCall::Frame(Call::Report, frame) => memory.report(frame),
+            AskedCall::Frame(Call::OneTerm, frame) => memory.list_one(frame),
+            AskedCall::Frame(Call::AllTerms, frame) => memory.list_all(frame),
+        });
+    }
+    text.push_str(&memory.end());
+    text
+}
+
+/// The number of blocks, of table entries and of places in lists that a question of sort 7 gives.
+fn sizes_of(payload: &[u8]) -> (usize, usize, usize) {
+    let size = |place| usize::from(u16::from_be_bytes([payload[place], payload[place + 1]]));
+    (size(0), size(2), usize::from(payload[4]))
+}
+
+/// The memory that the calls of one question share. Each call gives its part of the answer.
+struct LentMemory {
+    arena: Vec<u8>,
+    table: Vec<u32>,
+    counters: Counters,
+    places: usize,
+}
+
+impl LentMemory {
+    /// Null memory of the sizes that the question gives.
+    fn new(payload: &[u8]) -> LentMemory {
+        let (blocks, entries, places) = sizes_of(payload);
+        LentMemory {
+            arena: vec![0; blocks * BLOCK_BYTES],
+            table: vec![0; entries],
+            counters: Counters::default(),
+            places,
+        }
+    }
+
+    fn start(&mut self) -> String {
+        index::start(&mut self.table, &mut self.counters);
+        " S".to_string()
+    }
+
+    fn report(&mut self, frame: &[u8]) -> String {
+        let answer = index::report(&mut self.arena, &mut self.table, &mut self.counters, frame);
+        report_text(answer.refusal, answer.number)
+    }
+
+    fn list_one(&self, frame: &[u8]) -> String {
+        let mut numbers = vec![0; self.places];
+        let mut counts = vec![0; self.places];
+        let answer = index::list_one(
+            &self.arena,
+            &self.table,
+            &self.counters,
+            frame,
+            &mut numbers,
+            &mut counts,
+        );
+        numbers.truncate(answer.filled as usize);
+        listing_text(answer.refusal, answer.more, &numbers, Some(&counts))
+    }
+
+    fn list_all(&self, frame: &[u8]) -> String {
+        let mut numbers = vec![0; self.places];
+        let answer = index::list_all(
+            &self.arena,
+            &self.table,
+            &self.counters,
+            frame,
+            &mut numbers,
+        );
+        numbers.truncate(answer.filled as usize);
+        listing_text(answer.refusal, answer.more, &numbers, None)
+    }
+
+    /// The counters, the table and the arena.
+    fn end(&self) -> String {
+        let Counters {
+            used,
+            terms,
+            reports,
+        } = self.counters;
+        let table: Vec<u8> = self
+            .table
+            .iter()
+            .flat_map(|entry| entry.to_be_bytes())
+            .collect();
+        let (table, arena) = (hex(&table), hex(&self.arena));
+        format!(" | {used} {terms} {reports} {table} {arena}")
+    }
+}
+
+/// The part of an answer that stands for a report.
+fn report_text(refusal: u8, number: u32) -> String {
+    match refusal {
+        0 => format!(" R {number}"),
+        _ => format!(" E {refusal}"),
+    }
+}
+
+/// The part of an answer that stands for a listing with these numbers, and with the counts if it is
+/// one of one term.
+fn listing_text(refusal: u8, more: bool, numbers: &[u32], counts: Option<&[u32]>) -> String {
+    if refusal != 0 {
+        return format!(" E {refusal}");
+    }
+    let more = if more { '+' } else { '-' };
+    let mut text = format!(" Q {} {more}", numbers.len());
+    for (place, number) in numbers.iter().enumerate() {
+        text.push_str(&format!(" {number}"));
+        if let Some(counts) = counts {
+            text.push_str(&format!(":{}", counts[place]));
+        }
+    }
+    text
+}
+
 #[cfg(test)]
 mod tests {
     use super::*;
+    use crate::chains;
+    use crate::ledger::Ledger;
 
     /// How many of the answers to these payloads say that something is refused.
     fn refused(payloads: &[Vec<u8>], answer: fn(&[u8]) -> String) -> usize {
@@ -1066,14 +1863,6 @@ mod tests {
     fn hexadecimal_digits() {
         assert_eq!(hex(&[]), "-");
         assert_eq!(hex(&[0x00, 0x0A, 0xFF]), "000aff");
-    }
-
-    #[test]
-    fn the_first_draws_by_hand() {
-        // From 1: 1 xor 1 << 13 is 2001 hexadecimal; xor its shift by 7 to the right, 40, is 2041;
-        // xor its shift by 17 to the left, 4082 0000, is 4082 2041.
-        let mut draws = Draws::new(1);
-        assert_eq!(draws.next(), 0x4082_2041);
     }
 
     #[test]
@@ -1309,5 +2098,315 @@ mod tests {
             refused,
             payloads.len()
         );
+    }
+
+    #[test]
+    fn answers_of_sort_6() {
+        let payload = [2, b'z', b'n', 0, 0, 0, 33, 0, 0, 0, 1];
+        let answer = format!(
+            "blocks 7a6e 33:1 {}{}",
+            "0000002100000000000000210000000116027a6e8101",
+            "00".repeat(42)
+        );
+        assert_eq!(block_answer(&payload), answer);
+        let term = "6b6c6d6e6f707172737475767778797a6162636465666768696a6b6c6d6e6f7071727374";
+        let answer = format!(
+            "blocks {term} 1:1 2:1 3:1 4:1 5:1 6:1 7:1 8:1 9:1 10:1 11:1 {}{term}{}{}{}",
+            "00000001000000010000000b0000000b0524",
+            "01".repeat(10),
+            "0000000b25",
+            "00".repeat(59)
+        );
+        assert_eq!(block_answer(&marked_chain()), answer);
+    }
+
+    #[test]
+    fn postings_of_each_length() {
+        for length in 1..=10 {
+            for (gap, count) in [
+                posting_with_short_gap(length),
+                posting_with_long_gap(length),
+            ] {
+                let posting = Posting::new(gap, count).expect("no 0");
+                assert_eq!(postings::code(posting).len(), length);
+            }
+        }
+    }
+
+    /// A place at which a posting was put or would have been put: the length of the term if the
+    /// block is a head, else nothing; the length of the code; and where the code would end.
+    type Place = (Option<usize>, usize, usize);
+
+    /// The places that the postings of a chain met, worked out from the lengths of codes alone.
+    fn places_met(payload: &[u8]) -> Vec<Place> {
+        let (term, postings) = read_chain(payload);
+        let length = |base: u32, number: u32, count: u32| {
+            postings::code(Posting::new(number - base, count).expect("no 0")).len()
+        };
+        let mut places = Vec::new();
+        let mut block = Some(term.len());
+        let (mut first, mut last, mut offset) = (postings[0].0, 0, 18 + term.len());
+        for (number, count) in postings {
+            let code = length(last, number, count);
+            places.push((block, code, offset + code));
+            if offset + code <= 64 {
+                offset += code;
+            } else {
+                offset = 4 + length(first, number, count);
+                first = number;
+                block = None;
+            }
+            last = number;
+        }
+        places
+    }
+
+    #[test]
+    fn sort_6_asks_for_every_length_at_the_end_of_a_block() {
+        let places: Vec<Place> = block_questions()
+            .iter()
+            .flat_map(|payload| places_met(payload))
+            .collect();
+        let blocks = [None, Some(1), Some(2), Some(18), Some(35), Some(36)];
+        for block in blocks {
+            for length in 1..=10 {
+                // The code ends at byte 63, or would end at byte 64.
+                assert!(places.contains(&(block, length, 64)), "{block:?}, {length}");
+                assert!(places.contains(&(block, length, 65)), "{block:?}, {length}");
+            }
+        }
+    }
+
+    /// By how many bytes the b-gap of each posting that opens a later block is longer than its d-gap
+    /// would have been.
+    fn lengthenings(payload: &[u8]) -> Vec<usize> {
+        let (term, postings) = read_chain(payload);
+        let mut arena = Vec::new();
+        let mut lengthenings = Vec::new();
+        for (number, count) in postings {
+            let end = End::of(&arena, 0);
+            extend_chain(&mut arena, term, number, count);
+            let Some(end) = end.filter(|end| !end.fits(number, count)) else {
+                continue;
+            };
+            let length =
+                |base| postings::code(Posting::new(number - base, count).expect("no 0")).len();
+            lengthenings.push(length(end.first) - length(end.head.last));
+        }
+        lengthenings
+    }
+
+    #[test]
+    fn sort_6_asks_for_b_gaps_longer_than_d_gaps() {
+        let lengthenings: Vec<usize> = block_questions()
+            .iter()
+            .flat_map(|payload| lengthenings(payload))
+            .collect();
+        for bytes in 0..=4 {
+            let joins = lengthenings.iter().filter(|more| **more == bytes).count();
+            assert!(joins >= 6, "{joins} joins with {bytes} bytes more");
+        }
+    }
+
+    #[test]
+    fn sort_6_asks_for_at_most_24_blocks_and_ascending_numbers() {
+        let mut most = 0;
+        for payload in block_questions() {
+            let (term, postings) = read_chain(&payload);
+            assert!((1..=36).contains(&term.len()));
+            assert_eq!(terms::fold_term(term).as_deref(), Some(term));
+            assert!(postings.windows(2).all(|two| two[0].0 < two[1].0));
+            let mut arena = Vec::new();
+            for (number, count) in postings {
+                extend_chain(&mut arena, term, number, count);
+            }
+            most = most.max(blocks::capacity(arena.len()));
+        }
+        assert_eq!(most, 24);
+    }
+
+    #[test]
+    fn chains_of_sort_6_are_sound() {
+        for payload in block_questions() {
+            let (term, postings) = read_chain(&payload);
+            let mut arena = Vec::new();
+            for (number, count) in &postings {
+                extend_chain(&mut arena, term, *number, *count);
+            }
+            let used = blocks::capacity(arena.len());
+            let entries = chains::read(&arena, used, u32::MAX, 0).expect("a sound chain");
+            let read: Vec<(u32, u32)> = entries
+                .iter()
+                .map(|entry| (entry.number, entry.count))
+                .collect();
+            assert_eq!(read, postings);
+        }
+    }
+
+    #[test]
+    fn answers_of_sort_7() {
+        assert_eq!(
+            call_answer(&[0, 0, 0, 0, 0]),
+            "calls 0000000000 | 0 0 0 - -"
+        );
+        let calls = Calls::on(1, 2, 1)
+            .report(&[(b"A", 1)])
+            .one(0, b"a")
+            .report(&[(b"a", 4)])
+            .one(0, b"a")
+            .all(2, &[b"a"])
+            .report(&[(b"b", 1)])
+            .frame(Call::OneTerm, &[]);
+        // The hash of `a` is even, so that its slot is 0.
+        let answer = format!(
+            "calls {} R 1 Q 1 - 1:1 R 2 Q 1 + 1:1 Q 1 - 2 E 11 E 1 | 1 1 2 {} {}{}",
+            hex(&calls.payload),
+            "0000000100000000",
+            "00000001000000000000000200000002160161010401",
+            "00".repeat(42)
+        );
+        assert_eq!(call_answer(&calls.payload), answer);
+        let calls = Calls::on(0, 1, 0)
+            .report(&[])
+            .start()
+            .one(0, b"a")
+            .report(&[]);
+        let answer = format!(
+            "calls {} R 1 S Q 0 - R 1 | 0 0 1 00000000 -",
+            hex(&calls.payload)
+        );
+        assert_eq!(call_answer(&calls.payload), answer);
+    }
+
+    #[test]
+    fn the_desk_example_in_sort_7() {
+        for (payload, listings) in desk_calls().iter().zip([
+            "Q 2 - 1:3 2:4 Q 1 - 1",
+            "Q 2 - 1:3 2:4 Q 1 - 1",
+            "Q 1 + 1:3 Q 1 - 1",
+        ]) {
+            let expected = format!("calls {} R 1 R 2 {listings} | 2 2 2 ", hex(payload));
+            assert!(call_answer(payload).starts_with(&expected), "{expected}");
+        }
+    }
+
+    /// The words of all answers of sort 7 that stand between the payload and the counters.
+    fn words_of_sort_7() -> Vec<String> {
+        let mut words = Vec::new();
+        for payload in call_questions() {
+            let answer = call_answer(&payload);
+            let (calls, _) = answer.split_once(" | ").expect("a line divides the answer");
+            words.extend(calls.split(' ').skip(2).map(str::to_string));
+        }
+        words
+    }
+
+    #[test]
+    fn sort_7_asks_for_every_refusal_that_a_grown_index_gives() {
+        let words = words_of_sort_7();
+        let given = |refusal: u8| {
+            let refusal = refusal.to_string();
+            words
+                .windows(2)
+                .filter(|two| two[0] == "E" && two[1] == refusal)
+                .count()
+        };
+        for refusal in [1, 2, 3, 4, 5, 6, 7, 11, 12] {
+            assert!(given(refusal) >= 2, "refusal {refusal}: {}", given(refusal));
+        }
+        for refusal in [8, 9, 10, 13] {
+            assert_eq!(given(refusal), 0, "refusal {refusal}");
+        }
+        for word in ["S", "R", "Q", "+", "-"] {
+            let times = words.iter().filter(|other| *other == word).count();
+            assert!(times >= 10, "{word}: {times}");
+        }
+    }
+
+    #[test]
+    fn sort_7_asks_on_small_memory_of_many_sizes() {
+        let mut sizes = [Vec::new(), Vec::new(), Vec::new()];
+        for payload in call_questions() {
+            let (blocks, entries, places) = sizes_of(&payload);
+            sizes[0].push(blocks);
+            sizes[1].push(entries);
+            sizes[2].push(places);
+        }
+        assert!(sizes[0].iter().all(|blocks| *blocks <= 12));
+        assert!(sizes[1].iter().all(|entries| *entries <= 24));
+        for blocks in [0, 1, 2, 3, 12] {
+            assert!(sizes[0].contains(&blocks), "{blocks} blocks");
+        }
+        for entries in [0, 1, 2, 3, 5, 23, 24] {
+            assert!(sizes[1].contains(&entries), "{entries} entries");
+        }
+        for places in [0, 1, 2, 255] {
+            assert!(sizes[2].contains(&places), "{places} places");
+        }
+    }
+
+    #[test]
+    fn joins_of_sort_7() {
+        // The counters after each list: the marked chain on 2 blocks and on 1; the heads filled to
+        // byte 63 by 6 and 4 bytes and by 5 and 5, and the one of 6, 3 and 2; then two joins in one
+        // report with no, one and two blocks left; 45 of 48 postings in the head; five blocks for
+        // each of two terms and one more for the first, so that 48 reports are taken.
+        let counters: Vec<String> = join_calls()
+            .iter()
+            .map(|payload| {
+                let answer = call_answer(payload);
+                let (_, end) = answer.split_once(" | ").expect("a line divides the answer");
+                let numbers: Vec<&str> = end.split(' ').take(3).collect();
+                numbers.join(" ")
+            })
+            .collect();
+        let expected = [
+            "2 1 12", "1 1 11", "2 1 4", "2 1 4", "2 1 4", "2 2 2", "3 2 3", "4 2 4", "2 1 48",
+            "11 2 48",
+        ];
+        assert_eq!(counters[..10], expected);
+    }
+
+    /// The answer of the ledger to a question of sort 7, up to the counters.
+    fn ledger_answer(payload: &[u8]) -> String {
+        let (blocks, entries, places) = sizes_of(payload);
+        let mut ledger = Ledger::new();
+        let mut text = format!("calls {}", hex(payload));
+        for call in read_calls(payload) {
+            text.push_str(&match call {
+                AskedCall::Start => {
+                    ledger.start();
+                    " S".to_string()
+                }
+                AskedCall::Frame(Call::Report, frame) => {
+                    let answer = ledger.report(frame, blocks * 64, entries);
+                    report_text(answer.refusal, answer.number)
+                }
+                AskedCall::Frame(call, frame) => ledger_listing(&ledger, call, frame, places),
+            });
+        }
+        let (used, terms) = (ledger.prescribed_blocks(), ledger.terms());
+        format!("{text} | {used} {terms} {} ", ledger.reports())
+    }
+
+    /// The part of the ledger's answer that stands for a listing.
+    fn ledger_listing(ledger: &Ledger, call: Call, frame: &[u8], places: usize) -> String {
+        let (mut numbers, mut counts) = (vec![0; places], vec![0; places]);
+        let answer = match call {
+            Call::OneTerm => ledger.list_one(frame, &mut numbers, &mut counts),
+            _ => ledger.list_all(frame, &mut numbers),
+        };
+        numbers.truncate(answer.filled as usize);
+        let counts = Some(&counts[..]).filter(|_| call == Call::OneTerm);
+        listing_text(answer.refusal, answer.more, &numbers, counts)
+    }
+
+    #[test]
+    fn answers_of_sort_7_are_those_of_the_ledger() {
+        for payload in call_questions() {
+            let expected = ledger_answer(&payload);
+            let answer = call_answer(&payload);
+            assert!(answer.starts_with(&expected), "{expected}\n{answer}");
+        }
     }
 }

@@ -57,6 +57,9 @@ wide-requires-4 c κs = search needs
 add-result-3 : tie.Need-add-result-3
 add-result-3 c = search needs
 
+cast-result : tie.Need-cast-result
+cast-result c = omega arith
+
 returns : tie.Need-returns
 unfolding wordAt
 returns c = omega arith
@@ -82,4 +85,5 @@ read-word-spec =
     shared-slice-read-wide-4
     wide-requires-4
     add-result-3
+    cast-result
     returns)

@@ -33,6 +33,9 @@ wide-requires c κs = search needs
 mul-to : tie.Need-mul-to Inv-loop μ-loop
 mul-to c = search needs
 
+add-to : tie.Need-add-to Inv-loop μ-loop
+add-to c = search needs
+
 add-wide-2 : tie.Need-add-wide-2 Inv-loop μ-loop
 add-wide-2 c = search needs
 
@@ -41,9 +44,6 @@ shared-slice-read-wide-2 c = search needs
 
 wide-requires-2 : tie.Need-wide-requires-2 Inv-loop μ-loop
 wide-requires-2 c κs = search needs
-
-add-to : tie.Need-add-to Inv-loop μ-loop
-add-to c = search needs
 
 add-to-2 : tie.Need-add-to-2 Inv-loop μ-loop
 add-to-2 c = search needs
@@ -88,10 +88,10 @@ answer-all-spec =
     shared-slice-read-wide
     wide-requires
     mul-to
+    add-to
     add-wide-2
     shared-slice-read-wide-2
     wide-requires-2
-    add-to
     add-to-2
     returns
     shared-slice-read-answer
