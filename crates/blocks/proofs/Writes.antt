@@ -7,7 +7,7 @@ use Prim.Native.Nat.{ℕ, _+_, _-_, _≤_, _<_}
 use native.Mathlib.Omega.{arith}
 use borrow.Author.Tests.{leb-true}
 use lib.ListN.{length, getD, replicate, length-append, length-replicate, getD-replicate}
-use lib.Seq.{sets}
+use lib.Seq.{sets, length-sets}
 use Rattle.basics.specs.Words.{word}
 use Rattle.basics.proofs.Lists.{drop-replicate}
 use Rattle.basics.proofs.Stores.{sets-behind, sets-comm, sets-over}
@@ -15,7 +15,7 @@ use Rattle.basics.proofs.Words.{length-word}
 use Rattle.postings.specs.Coding.{code}
 use Rattle.blocks.specs.declared.Head.{Head}
 use Rattle.blocks.specs.Fields.{blockSize, headFixed, linkSize, place, linkOf}
-use Rattle.blocks.specs.Writes.{padded, changing, headBytes, openHead, fits, joinTo}
+use Rattle.blocks.specs.Writes.{padded, changing, headBytes, openHead, fits, addTo, joinTo}
 
 -- ---- a cleared block
 
@@ -104,3 +104,17 @@ join-stored a h d b n f l =
 pub fits-room : (d : Head) (n f : ℕ) → fits d n f ≡ true → d .end + length (code (n - d .last) f) ≤ blockSize
 unfolding fits
 fits-room d n f e = leb-true (d .end + length (code (n - d .last) f)) blockSize e
+
+-- ---- the arena keeps its length
+
+pub length-openHead : (a : List ℕ) (b : ℕ) (name : List ℕ) (n f : ℕ) → length (openHead a b name n f) ≡ length a
+unfolding openHead
+length-openHead a b name n f = length-sets a (place b) (padded (headBytes b name n f))
+
+pub length-addTo : (a : List ℕ) (h : ℕ) (d : Head) (n f : ℕ) → length (addTo a h d n f) ≡ length a
+unfolding addTo
+length-addTo a h d n f = simp length-sets
+
+pub length-joinTo : (a : List ℕ) (h : ℕ) (d : Head) (b n f : ℕ) → length (joinTo a h d b n f) ≡ length a
+unfolding joinTo
+length-joinTo a h d b n f = simp length-sets

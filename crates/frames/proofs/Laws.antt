@@ -9,14 +9,17 @@ use lib.Dec.{ltb}
 use lib.ListN.{length}
 use borrow.Author.Tests.{ltb-false}
 use Rattle.basics.proofs.Lists.{or-left, or-right}
+use Rattle.terms.specs.Terms.{maxTerm}
+use Rattle.terms.proofs.Laws.{term-length}
 use Rattle.frames.specs.declared.Cursor.{Cursor}
 use Rattle.frames.specs.declared.Report.the-variants as report
 use Rattle.frames.specs.declared.Query.the-variants as query
-use Rattle.frames.specs.Refusals.{_if_}
-use Rattle.frames.specs.Frames.{maxBody, countBytes, firstLine, firstTerm, pastField, fields, lines, terms, passesEnd, wrongTerms, badTerm, zeroCount, repeatedTerm, reportRows, queryRows, reportRefusal, queryRefusal, lineAt, foldedAt, reportAs, reportFrame, queryStart, queryAs, queryFrame}
-use Rattle.frames.proofs.Refusals.{first-zero, both-zero}
+use Rattle.frames.specs.Refusals.{Row, _if_, firstOf}
+use Rattle.frames.specs.Frames.{maxBody, countBytes, firstLine, firstTerm, termAt, pastField, Field, fields, lines, terms, passesEnd, wrongTerms, badTerm, zeroCount, repeatedTerm, headRows, reportRows, queryRows, reportRefusal, queryRefusal, lineAt, foldedAt, reportAs, reportFrame, queryStart, queryAs, queryFrame}
+use Rattle.frames.proofs.Refusals.{Numbered, none, one, first-empty, first-zero, both-zero, numbered-append, first-le}
 use Rattle.frames.proofs.Heads.{head-numbered, headed, Headed}
-use Rattle.frames.proofs.Fields.{fields-end, fields-more}
+use Rattle.frames.proofs.Fields.{fields-end, fields-more, field-here, whole-on}
+use Rattle.frames.proofs.Conditions.{good-here, good-on}
 
 -- ---- frames that are not refused
 
@@ -62,6 +65,17 @@ lines-case (suc n) c e = let z : _≡_ {A = ℕ} 0 1 = cc in absurd (omega arith
 pub lines-sound : (f : List ℕ) (c : Cursor) → reportFrame f ≡ report.Lines c → (reportRefusal f ≡ 0) × (c .at ≡ firstLine)
 unfolding reportFrame
 lines-sound f c e = lines-case (reportRefusal f) c e
+
+refused-case : (n r : ℕ) → reportAs n ≡ report.Refused r → (n ≡ r) × (0 < r)
+refused-case zero r e = let z : _≡_ {A = ℕ} 0 1 = cc in absurd (omega arith)
+refused-case (suc n) r e =
+    let q : suc n ≡ r = cc in
+    (q, omega arith)
+
+-- and where it hands out a refusal, that is the frame's
+pub report-refused : (f : List ℕ) (r : ℕ) → reportFrame f ≡ report.Refused r → (reportRefusal f ≡ r) × (0 < r)
+unfolding reportFrame
+report-refused f r e = refused-case (reportRefusal f) r e
 
 terms-case : (n : ℕ) (f : List ℕ) (start : ℕ) (c : Cursor) → queryAs n f ≡ query.Terms start c → (n ≡ 0) × (start ≡ queryStart f) × (c .at ≡ firstTerm)
 terms-case zero f start c e =
@@ -112,3 +126,58 @@ terms-more f at h = rw (fields-more 0 f at h)
 
 pub terms-end : (f : List ℕ) (at : ℕ) → length f ≤ at → map (foldedAt f) (fields 0 f at) ≡ []
 terms-end f at h = rw (fields-end 0 f at h)
+
+-- ---- fields that are whole and are terms, from an offset on
+
+pub record Sound (tail : ℕ) (f : List ℕ) (at : ℕ) : Type 0 where
+  pub whole : passesEnd tail f at ≡ false
+  pub good : badTerm f (fields tail f at) ≡ false
+
+-- the lines of a report that is not refused
+pub sound-lines : (f : List ℕ) → reportRefusal f ≡ 0 → Sound countBytes f firstLine
+sound-lines f z = let r : SoundReport f = sound-report f z in record { whole = r .uncut; good = r .good }
+
+module _ {tail : ℕ} {f : List ℕ} {at : ℕ} (s : Sound tail f at) (h : at < length f) where
+  -- before the end a whole field stands here
+  pub sound-field : Field tail f at
+  sound-field = field-here tail f at (s .whole) h
+
+  -- whose term has at most 36 bytes
+  pub sound-term : length (termAt f at) ≤ maxTerm
+  sound-term = term-length (termAt f at) (good-here tail f at h (s .good)) .1
+
+  -- and so on from the next
+  pub sound-on : Sound tail f (pastField tail f at)
+  sound-on = record { whole = whole-on tail f at (s .whole) h; good = good-on tail f at h (s .good) }
+
+-- ---- the numbers of a report's table
+
+module _ (f : List ℕ) where
+  lineRows : List Row
+  lineRows =
+      (4 if passesEnd countBytes f firstLine)
+      ∷ (5 if badTerm f (lines f))
+      ∷ (6 if zeroCount f (lines f))
+      ∷ (7 if repeatedTerm f (lines f))
+      ∷ []
+
+  line-numbered : Numbered lineRows
+  unfolding lineRows
+  line-numbered =
+      one {r = 4 if passesEnd countBytes f firstLine} (omega arith)
+      (one {r = 5 if badTerm f (lines f)} (omega arith)
+      (one {r = 6 if zeroCount f (lines f)} (omega arith) (one {r = 7 if repeatedTerm f (lines f)} (omega arith) none)))
+
+  pub report-numbered : Numbered (reportRows f)
+  unfolding reportRows lineRows
+  report-numbered = numbered-append (head-numbered 1 f) line-numbered
+
+  -- a report's frame is refused with 1 to 7
+  pub report-le : reportRefusal f ≤ 7
+  unfolding reportRefusal reportRows headRows lineRows
+  report-le =
+      let last : firstOf [] ≤ 7 = rw first-empty (omega arith) in
+      first-le 7 _ _ (omega arith)
+      (first-le 7 _ _ (omega arith)
+      (first-le 7 _ _ (omega arith)
+      (first-le 7 _ _ (omega arith) (first-le 7 _ _ (omega arith) (first-le 7 _ _ (omega arith) (first-le 7 _ _ (omega arith) last))))))

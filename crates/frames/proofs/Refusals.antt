@@ -3,7 +3,7 @@
 use mathlib.Core.Path.{_≡_, refl, sym, _∙_}
 use mathlib.Core.Bool.{Bool, true, false}
 use mathlib.Core.List.{List, [], _∷_, _++_}
-use Prim.Native.Nat.{_<_}
+use Prim.Native.Nat.{ℕ, _≤_, _<_}
 use native.Mathlib.Omega.{arith}
 use Rattle.basics.proofs.Cases.{by-eq}
 use Rattle.frames.specs.Refusals.{Row, firstOf}
@@ -59,3 +59,20 @@ append-case {a} b n z = by-eq (firstOf a) 0 (λ e. e) (λ p. absurd (p (sym (fir
 
 pub both-zero : {a : List Row} (b : List Row) → Numbered a → firstOf (a ++ b) ≡ 0 → (firstOf a ≡ 0) × (firstOf b ≡ 0)
 both-zero {a} b n z = let e = append-case b n z in (e, sym (first-none b n e) ∙ z)
+
+-- ---- parts of a table
+
+pub numbered-append : {a b : List Row} → Numbered a → Numbered b → Numbered (a ++ b)
+numbered-append none n = n
+numbered-append (one p m) n = one p (numbered-append m n)
+
+-- the number found is at most n where all numbers are
+le-case : (t : Bool) (n : ℕ) (r : Row) (rs : List Row) → r .holds ≡ t → r .number ≤ n → firstOf rs ≤ n → firstOf (r ∷ rs) ≤ n
+le-case true n r rs e h l = rw (first-holds r rs e) h
+le-case false n r rs e h l = rw (first-passes r rs e) l
+
+pub first-le : (n : ℕ) (r : Row) (rs : List Row) → r .number ≤ n → firstOf rs ≤ n → firstOf (r ∷ rs) ≤ n
+first-le n r rs h l = le-case (r .holds) n r rs refl h l
+
+pub append-le : (n : ℕ) {a : List Row} (b : List Row) → Numbered a → firstOf a ≤ n → firstOf b ≤ n → firstOf (a ++ b) ≤ n
+append-le n {a} b m h l = by-eq (firstOf a) 0 (λ e. rw (first-none b m e) l) (λ e. rw (first-some a b (omega arith)) h)

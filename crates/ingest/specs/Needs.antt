@@ -1,6 +1,7 @@
--- What the functions of this crate need of the memory that they are lent, once refusals 8 and 9 are past.
-use Prim.Native.Nat.{ℕ, _≤_, _<_}
+-- What the private functions of this crate need of the memory that they are lent, once refusals 8 and 9 are past, and how they make plans and refusals.
+use Prim.Native.Nat.{ℕ, _+_, _≤_, _<_}
 use mathlib.Core.Path.{_≡_}
+use mathlib.Core.Bool.{_||_}
 use mathlib.Core.List.{List, [], _∷_}
 use Rattle.terms.specs.Terms.{maxTerm}
 use Rattle.terms.specs.declared.Term.{Term}
@@ -10,7 +11,9 @@ use Rattle.blocks.specs.Fields.{maxWord, capacity}
 use Rattle.counters.specs.declared.Counters.{Counters}
 use Rattle.counters.specs.Counters.{memory, maxTerms}
 use Rattle.ingest.specs.declared.Place.{Place}
-use Rattle.ingest.specs.Report.{placed, planOf, planRows}
+use Rattle.ingest.specs.declared.Plan.{Plan}
+use Rattle.ingest.specs.declared.Taken.{Taken}
+use Rattle.ingest.specs.Report.{isDamaged, termsFor, blocksFor, placed, planOf, planRows}
 
 -- the used blocks lie in the arena, and another report can be numbered
 pub record Room (a : List ℕ) (k : Counters) : Type 0 where
@@ -28,3 +31,15 @@ pub record Writable (a table : List ℕ) (k : Counters) (t : Term) (f : ℕ) (p 
   pub short : t .length ≤ maxTerm
   pub found : p ≡ placed a k f (search a (k .used) table t)
   pub judged : firstOf (planRows (memory a table k) (planOf (p ∷ []))) ≡ 0
+
+-- a plan with one line more
+unfoldable pub withPlace : Plan → Place → Plan
+withPlace n p = record {
+  damaged = n .damaged || isDamaged p;
+  terms = n .terms + termsFor p;
+  blocks = n .blocks + blocksFor p;
+}
+
+-- the answer of a refusal, with the counters that the call leaves
+abbrev pub refusedWith : ℕ → Counters → Taken
+refusedWith r k = record { answer = record { refusal = r; number = 0 }; counters = k }

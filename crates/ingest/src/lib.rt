@@ -1,16 +1,14 @@
 // Taking a report (document 01, "Taking a report"): all lines are judged before a byte is written.
 ghost use mathlib.Core.Path.{_≡_};
-ghost use mathlib.Core.Bool.{true, false, _||_};
 ghost use Prim.Native.Nat.{_+_, _≤_, _<_};
-ghost use lib.ListN.{length};
-ghost use Rattle.terms.specs.Terms.{maxTerm, termOf};
-ghost use Rattle.frames.specs.Frames.{maxBody, reportRefusal, reportLines, lineAt};
+ghost use Rattle.terms.specs.Terms.{maxTerm};
+ghost use Rattle.frames.specs.Frames.{maxBody, reportRefusal, reportLines};
 ghost use Rattle.frames.specs.Refusals.{firstOf};
-ghost use Rattle.blocks.specs.Fields.{maxWord, blockSize, place, capacity};
-ghost use Rattle.lookup.specs.Lookup.{search, slots};
-ghost use Rattle.counters.specs.Counters.{memory, maxTerms, wrongCounters};
-ghost use Rattle.ingest.specs.Report.{lineOf, wroteAs, damagedHead, placeAt, placed, isDamaged, termsFor, blocksFor, planRows, linesPlan, written, writeLines, callRefusal, reportCall, takenOf};
-ghost use Rattle.ingest.specs.Needs.{Room, Held, Writable};
+ghost use Rattle.blocks.specs.Fields.{maxWord};
+ghost use Rattle.lookup.specs.Lookup.{search};
+ghost use Rattle.counters.specs.Counters.{memory};
+ghost use Rattle.ingest.specs.Report.{lineOf, wroteAs, damagedHead, placeAt, placed, planRows, linesPlan, written, writeLines, callRefusal, reportCall, takenOf};
+ghost use Rattle.ingest.specs.Needs.{Room, Held, Writable, withPlace, refusedWith};
 use blocks::Head;
 use counters::Counters;
 use frames::Cursor;
@@ -99,7 +97,7 @@ fn place_of(arena: &[u8], table: &[u32], k: Counters, term: Term, count: u32) ->
 
 fn with_place(plan: Plan, p: Place) -> Plan
     requires { ⌜ (plan .terms < maxWord) × (plan .blocks < maxWord) ⌝ }
-    ensures { λ r. ⌜ (r .damaged ≡ plan .damaged || isDamaged p) × (r .terms ≡ plan .terms + termsFor p) × (r .blocks ≡ plan .blocks + blocksFor p) ⌝ }
+    ensures { λ r. ⌜ r ≡ withPlace plan p ⌝ }
 {
     match p {
         Place::Damaged => Plan {
@@ -123,7 +121,7 @@ fn with_place(plan: Plan, p: Place) -> Plan
 
 fn plan_lines(arena: &[u8], table: &[u32], k: Counters, frame: &[u8]) -> Plan
     requires { ⌜ Room (now arena) k × (reportRefusal (now frame) ≡ 0) ⌝ }
-    ensures { λ r. ⌜ r ≡ linesPlan (memory (now (arena .entry)) (now (table .entry)) k) (reportLines (now (frame .entry))) ⌝ }
+    ensures { λ r. ⌜ (r ≡ linesPlan (memory (now (arena .entry)) (now (table .entry)) k) (reportLines (now (frame .entry)))) × (r .terms ≤ maxBody) ⌝ }
 {
     let mut plan = Plan {
         damaged: false,
@@ -237,7 +235,7 @@ fn write_lines(arena: &mut [u8], table: &mut [u32], k: Counters, frame: &[u8]) -
 // ---- the call
 
 fn refused(refusal: u8, k: Counters) -> Taken
-    ensures { λ r. ⌜ (r .answer .refusal ≡ refusal) × (r .answer .number ≡ 0) × (r .counters ≡ k) ⌝ }
+    ensures { λ r. ⌜ r ≡ refusedWith refusal k ⌝ }
 {
     Taken {
         answer: ReportAnswer { refusal, number: 0 },

@@ -235,3 +235,8 @@ nameIn-termOf s = ap (λ (n : ℕ). take n (termOf s .bytes)) (termOf-length s) 
 pub length-nameIn : (t : Term) → t .length ≤ length (t .bytes) → length (nameIn t) ≡ t .length
 unfolding nameIn
 length-nameIn t h = length-take-le (t .length) (t .bytes) h
+
+-- folded bytes give the same term as the bytes themselves
+pub termOf-folded : (s : List ℕ) → termOf (folded s) ≡ termOf s
+unfolding termOf
+termOf-folded s = rw (folded-folded s, length-folded s)

@@ -1,0 +1,4 @@
+pub mod Places
+pub mod Plans
+pub mod Writing
+pub mod Calls

@@ -1,0 +1,132 @@
+-- Where a line goes: what its place says of the term's head, or of the slot for a new one.
+-- Assumes nothing.
+use mathlib.Core.Path.{_≡_, refl}
+use mathlib.Core.Bool.{Bool, true, false}
+use mathlib.Core.List.{List, map}
+use Prim.Native.Nat.{ℕ, _≤_, _<_}
+use native.Mathlib.Omega.{arith}
+use borrow.Author.Tests.{ltb-false}
+use lib.Dec.{ltb}
+use Rattle.basics.proofs.Lists.{or-left, or-right}
+use Rattle.terms.specs.Terms.{termOf, nameIn}
+use Rattle.terms.specs.declared.Term.{Term}
+use Rattle.terms.proofs.Laws.{termOf-folded, nameIn-termOf}
+use Rattle.frames.specs.Frames.{Line, countBytes, termAt, countAt, fields, lineAt}
+use Rattle.blocks.specs.declared.Head.{Head}
+use Rattle.blocks.specs.Fields.{linkOf, headOf}
+use Rattle.blocks.specs.Writes.{fits, Appends}
+use Rattle.blocks.proofs.Capacity.{block-inside}
+use Rattle.chains.specs.Chains.{badHead}
+use Rattle.chains.proofs.Laws.{Good, head-good}
+use Rattle.lookup.specs.declared.Found.{Found}
+use Rattle.lookup.specs.declared.Found.the-variants as found
+use Rattle.lookup.specs.Lookup.{search as sought}
+use Rattle.lookup.proofs.Search.{Stands, search-at}
+use Rattle.counters.specs.declared.Counters.{Counters}
+use Rattle.counters.specs.Counters.{Memory}
+use Rattle.ingest.specs.declared.Place.{Place}
+use Rattle.ingest.specs.declared.Place.the-variants.{Damaged, New, Stays, Spills}
+use Rattle.ingest.specs.Report.{nextNumber, lineOf, damagedHead, placeAt, placed, placeOf}
+use Rattle.ingest.specs.Needs.{Room}
+
+-- ---- a known term's head
+
+-- one without damage: the head is sound, and last report, tail's first number and number of postings are at most reports
+pub record Fine (a : List ℕ) (k : Counters) (h : ℕ) (d : Head) : Type 0 where
+  pub good : Good d (k .used) h
+  pub last : d .last ≤ k .reports
+  pub first : linkOf a (d .tail) ≤ k .reports
+  pub postings : d .postings ≤ k .reports
+
+pub head-fine : (a : List ℕ) (k : Counters) (h : ℕ) (d : Head) → damagedHead a k h d ≡ false → Fine a k h d
+unfolding damagedHead
+head-fine a k h d e =
+    let x = badHead d (k .used) h in
+    let y = ltb (k .reports) (d .last) in
+    let z = ltb (k .reports) (linkOf a (d .tail)) in
+    let p = or-right x _ e in
+    let q = or-right y _ p in
+    record {
+      good = head-good d (k .used) h (or-left x _ e);
+      last = ltb-false (k .reports) (d .last) (or-left y _ p);
+      first = ltb-false (k .reports) (linkOf a (d .tail)) (or-left z _ q);
+      postings = ltb-false (k .reports) (d .postings) (or-right z _ q);
+    }
+
+-- it can take one posting more
+pub fine-appends : (a : List ℕ) (k : Counters) (h : ℕ) (d : Head) → Room a k → h < k .used → Fine a k h d → Appends a h d (nextNumber k)
+fine-appends a k h d r u w = record {
+  head-in = block-inside a (k .used) (r .inside) h u;
+  tail-in = block-inside a (k .used) (r .inside) (d .tail) (w .good .tail);
+  inside = w .good .within;
+  ascends = omega (arith, w .last);
+  countable = omega (arith, w .postings, r .numbered);
+}
+
+module _ (a : List ℕ) (k : Counters) (f h : ℕ) where
+  pub at-damaged : damagedHead a k h (headOf a h) ≡ true → placeAt a k f h ≡ Damaged
+  unfolding placeAt
+  at-damaged e = rw e
+
+  module _ (e : damagedHead a k h (headOf a h) ≡ false) where
+    pub at-stays : fits (headOf a h) (nextNumber k) f ≡ true → placeAt a k f h ≡ Stays h
+    unfolding placeAt
+    at-stays q = rw (e, q)
+
+    pub at-spills : fits (headOf a h) (nextNumber k) f ≡ false → placeAt a k f h ≡ Spills h
+    unfolding placeAt
+    at-spills q = rw (e, q)
+
+-- ---- what a place says
+
+-- a known term's head h, and whether the posting fits there
+pub record Known (a : List ℕ) (k : Counters) (w : List ℕ) (f h : ℕ) (fit : Bool) : Type 0 where
+  pub stands : Stands a (k .used) w h
+  pub fine : Fine a k h (headOf a h)
+  pub fitting : fits (headOf a h) (nextNumber k) f ≡ fit
+
+module _ (a table : List ℕ) (k : Counters) (t : Term) (f : ℕ) where
+  abbrev pub Seat : Place → Type 0
+  Seat Damaged = Unit
+  Seat (New s) = sought a (k .used) table t ≡ found.Unknown s
+  Seat (Stays h) = Known a k (nameIn t) f h true
+  Seat (Spills h) = Known a k (nameIn t) f h false
+
+  seat-at : (h : ℕ) → sought a (k .used) table t ≡ found.At h → Seat (placeAt a k f h)
+  seat-at h e = go (damagedHead a k h (headOf a h)) (fits (headOf a h) (nextNumber k) f) refl refl
+    where
+      known : (b : Bool) → damagedHead a k h (headOf a h) ≡ false → fits (headOf a h) (nextNumber k) f ≡ b → Known a k (nameIn t) f h b
+      known b p q = record { stands = search-at a (k .used) table t h e; fine = head-fine a k h (headOf a h) p; fitting = q }
+
+      go : (x b : Bool) → damagedHead a k h (headOf a h) ≡ x → fits (headOf a h) (nextNumber k) f ≡ b → Seat (placeAt a k f h)
+      go true b p q = rw (at-damaged a k f h p) tt
+      go false true p q = rw (at-stays a k f h p q) (known true p q)
+      go false false p q = rw (at-spills a k f h p q) (known false p q)
+
+  seat-found : (r : Found) → sought a (k .used) table t ≡ r → Seat (placed a k f r)
+  unfolding placed
+  seat-found (found.At h) e = seat-at h e
+  seat-found (found.Unknown s) e = e
+  seat-found found.Damaged e = tt
+
+  -- of the place that a search leads to
+  pub seat : (p : Place) → p ≡ placed a k f (sought a (k .used) table t) → Seat p
+  seat p e = rw e (seat-found (sought a (k .used) table t) refl)
+
+-- ---- the line at an offset of a frame, its term folded from the frame itself
+
+-- the lines from there on
+abbrev pub linesFrom : List ℕ → ℕ → List Line
+linesFrom f at = map (lineAt f) (fields countBytes f at)
+
+-- t and n are its folded term and its count, s its bytes
+module _ (f : List ℕ) (at : ℕ) {s : List ℕ} {t : Term} {n : ℕ} (b : s ≡ termAt f at) (e : t ≡ termOf s) (q : n ≡ countAt f at) where
+  -- its place
+  pub read-place : (m : Memory) → placed (m .arena) (m .counters) n (sought (m .arena) (m .counters .used) (m .table) t) ≡ placeOf m (lineAt f at)
+  unfolding placeOf lineAt
+  read-place m = rw (q, e, b, termOf-folded (termAt f at))
+
+  -- the line itself
+  pub read-line : lineOf t n ≡ lineAt f at
+  unfolding lineAt
+  read-line = rw (q, e, b, nameIn-termOf (termAt f at))

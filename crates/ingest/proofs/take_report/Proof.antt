@@ -1,0 +1,148 @@
+-- `ingest::take_report` meets its contract: a refused frame and a refused call leave the memory, any other call writes its lines.
+-- Assumes nothing.
+use borrow.Author.Needs.{needs}
+use mathlib.Core.Path.{_≡_, sym, _∙_}
+use mathlib.Core.List.{List}
+use Prim.Native.Nat.{ℕ}
+use native.Mathlib.Omega.{arith}
+use denote.Ref.{now}
+use Rattle.frames.specs.Frames.{reportRefusal}
+use Rattle.frames.proofs.Laws.{lines-sound, report-refused}
+use Rattle.counters.specs.Counters.{Memory, memory}
+use Rattle.ingest.specs.Report.{callRefusal, takenOf}
+use Rattle.ingest.proofs.Writing.{HeldIn, held-right}
+use Rattle.ingest.proofs.Calls.{Judged, judged, call-refused, call-frame-refused, call-stopped, call-taken, answers}
+use Rattle.ingest.proofs.take_report.Statement.{statement}
+use Rattle.ingest.proofs.take_report.Tie as tie
+
+abbrev m : tie.Start → Memory
+m s = memory (now (s .args .arena)) (now (s .args .table)) (s .args .k)
+
+abbrev frame : tie.Start → List ℕ
+frame s = now (s .args .frame)
+
+check-report-requires : tie.Need-check-report-requires
+check-report-requires c κs = search needs
+
+enum-known-n : tie.Need-enum-known-n
+enum-known-n c = search needs
+
+refused-requires : tie.Need-refused-requires
+refused-requires c κs = search needs
+
+enum-told : tie.Need-enum-told
+enum-told c = search needs
+
+-- a sound frame
+module _ (c : tie.After-enum-told) where
+  abbrev s : tie.Start
+  s = c .before .before .before .before .before .before
+
+  sound : reportRefusal (frame s) ≡ 0
+  sound = lines-sound (frame s) _ (sym (c .before .before .check-report .ensures) ∙ c .enum-told .given .1) .0
+
+judge-report-requires : tie.Need-judge-report-requires
+judge-report-requires c κs = sound (c .before .before)
+
+refused-requires-2 : tie.Need-refused-requires-2
+refused-requires-2 c κs = search needs
+
+same-length : tie.Need-same-length
+same-length c = search needs
+
+same-length-2 : tie.Need-same-length-2
+same-length-2 c = search needs
+
+returns : tie.Need-returns
+unfolding takenOf
+returns c =
+    let j = c .before .before in
+    let e = j .before .before .before in
+    rw (c .refused2 .ensures, j .judge-report .ensures)
+    (answers (m (s e)) (frame (s e)) (call-refused (m (s e)) (frame (s e)) (rw (← j .judge-report .ensures) (c .before .if1 .taken))))
+
+-- a call that is not refused
+module _ (c : tie.Else1) where
+  abbrev e : tie.After-enum-told
+  e = c .before .before .before .before
+
+  judges : callRefusal (m (s e)) (frame (s e)) ≡ 0
+  judges = sym (c .before .judge-report .ensures) ∙ c .if1 .left
+
+  held : HeldIn (m (s e))
+  held =
+      let w : Judged (m (s e)) (frame (s e)) = judged (m (s e)) (frame (s e)) judges in
+      held-right (m (s e)) (w .counters) (w .numbered) (omega arith)
+
+write-lines-requires : tie.Need-write-lines-requires
+write-lines-requires c κs = let i = c .before .before in (held i, sound (e i))
+
+refused-requires-3 : tie.Need-refused-requires-3
+refused-requires-3 c κs = search needs
+
+same-length-3 : tie.Need-same-length-3
+same-length-3 c = search needs
+
+same-length-4 : tie.Need-same-length-4
+same-length-4 c = search needs
+
+returns-2 : tie.Need-returns-2
+unfolding takenOf
+returns-2 c =
+    let w = c .before .before .before .before .before .before .before in
+    let i = w .before .before .before in
+    let k = s (e i) in
+    rw (c .refused3 .ensures)
+    (answers (m k) (frame k) (call-stopped (m k) (frame k) (judges i) (w .write-lines .ensures) (c .before .if2 .taken)))
+
+add-number : tie.Need-add-number
+add-number c =
+    let i = c .before .before .before .before .before .before .before .before .before .before in
+    omega (arith, held i .room .numbered)
+
+returns-3 : tie.Need-returns-3
+unfolding takenOf
+returns-3 c =
+    let n = c .before .before in
+    let k = n .before .before .before .before .before .before in
+    let r = report-refused (frame k) _ (sym (n .before .before .check-report .ensures) ∙ n .n .given .1) in
+    rw (c .refused .ensures, ← r .0)
+    (answers (m k) (frame k) (call-frame-refused (m k) (frame k) (omega (arith, r .0, r .1))))
+
+same-length-5 : tie.Need-same-length-5
+same-length-5 c = search needs
+
+same-length-6 : tie.Need-same-length-6
+same-length-6 c = search needs
+
+returns-4 : tie.Need-returns-4
+unfolding takenOf
+returns-4 c =
+    let w = c .before .before .before .before .before .before .before in
+    let i = w .before .before .before in
+    let k = s (e i) in
+    answers (m k) (frame k) (call-taken (m k) (frame k) (judges i) (w .write-lines .ensures) (c .before .if2 .left))
+
+pub take-report-spec : {M : Type 1} → statement M
+take-report-spec =
+    tie.close
+    (tie.spec
+    check-report-requires
+    enum-known-n
+    refused-requires
+    enum-told
+    judge-report-requires
+    refused-requires-2
+    same-length
+    same-length-2
+    returns
+    write-lines-requires
+    refused-requires-3
+    same-length-3
+    same-length-4
+    returns-2
+    add-number
+    returns-3
+    same-length-5
+    same-length-6
+    returns-4)
