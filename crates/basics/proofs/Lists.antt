@@ -11,7 +11,7 @@ use borrow.Author.Tests.{eqb-true, eq-eqb}
 use lib.Dec.{eqb}
 use lib.ListN.{length, getD, take, drop, replicate}
 use lib.Seq.{drop-cons}
-use Rattle.basics.specs.Lists.{all, same}
+use Rattle.basics.specs.Lists.{all, keep, same}
 
 -- ---- conjunctions
 
@@ -27,6 +27,10 @@ pub and-false : (a : Bool) → a && false ≡ false
 and-false true = refl
 and-false false = refl
 
+pub and-true : (a : Bool) → a && true ≡ a
+and-true true = refl
+and-true false = refl
+
 -- ---- a test at every element
 
 module _ {A : Type 0} (f : A → Bool) where
@@ -41,6 +45,30 @@ module _ {A : Type 0} (f : A → Bool) where
   pub all-drop : (s : List A) (d : A) (i : ℕ) → i < length s → all f (drop i s) ≡ f (getD s i d) && all f (drop (i + 1) s)
   unfolding all
   all-drop s d i h = rw (add-one, drop-cons s i d)
+
+-- ---- the elements that a test keeps
+
+module _ {A : Type 0} (f : A → Bool) where
+  -- an element that passes is kept, another is left out
+  pub keep-passes : (x : A) (s : List A) → f x ≡ true → keep f (x ∷ s) ≡ x ∷ keep f s
+  unfolding keep
+  keep-passes x s e = rw e
+
+  pub keep-fails : (x : A) (s : List A) → f x ≡ false → keep f (x ∷ s) ≡ keep f s
+  unfolding keep
+  keep-fails x s e = rw e
+
+  -- tests that agree keep the same
+  pub keep-agrees : (g : A → Bool) → ((x : A) → f x ≡ g x) → (s : List A) → keep f s ≡ keep g s
+  unfolding keep
+  keep-agrees g e [] = refl
+  keep-agrees g e (x ∷ s) = rw (e x, keep-agrees g e s)
+
+-- ---- a front of nothing
+
+pub take-nil : {A : Type 0} (i : ℕ) → take {A = A} i [] ≡ []
+take-nil zero = refl
+take-nil (suc i) = refl
 
 -- ---- a map of a part
 

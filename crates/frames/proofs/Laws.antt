@@ -2,12 +2,13 @@
 -- Assumes nothing.
 use mathlib.Core.Path.{_≡_, refl, sym, ap}
 use mathlib.Core.Bool.{false}
-use mathlib.Core.List.{List, [], _∷_, map}
+use mathlib.Core.List.{List, [], _∷_, _++_, map}
 use Prim.Native.Nat.{ℕ, zero, suc, _+_, _≤_, _<_}
 use native.Mathlib.Omega.{arith}
-use lib.Dec.{ltb}
+use lib.Dec.{ltb, eqb}
 use lib.ListN.{length}
-use borrow.Author.Tests.{ltb-false}
+use borrow.Author.Tests.{ltb-false, eqb-false}
+use Rattle.basics.proofs.Cases.{by-lt}
 use Rattle.basics.proofs.Lists.{or-left, or-right}
 use Rattle.terms.specs.Terms.{maxTerm}
 use Rattle.terms.proofs.Laws.{term-length}
@@ -15,8 +16,8 @@ use Rattle.frames.specs.declared.Cursor.{Cursor}
 use Rattle.frames.specs.declared.Report.the-variants as report
 use Rattle.frames.specs.declared.Query.the-variants as query
 use Rattle.frames.specs.Refusals.{Row, _if_, firstOf}
-use Rattle.frames.specs.Frames.{maxBody, countBytes, firstLine, firstTerm, termAt, pastField, Field, fields, lines, terms, passesEnd, wrongTerms, badTerm, zeroCount, repeatedTerm, headRows, reportRows, queryRows, reportRefusal, queryRefusal, lineAt, foldedAt, reportAs, reportFrame, queryStart, queryAs, queryFrame}
-use Rattle.frames.proofs.Refusals.{Numbered, none, one, first-empty, first-zero, both-zero, numbered-append, first-le}
+use Rattle.frames.specs.Frames.{maxBody, countBytes, firstLine, firstTerm, termAt, pastField, Field, fields, lines, terms, passesEnd, wrongTerms, badTerm, zeroCount, repeatedTerm, headRows, reportRows, queryRows, reportRefusal, queryRefusal, lineAt, foldedAt, reportAs, reportFrame, queryStart, queryAs, queryFrame, wrongVersion, wrongLength, wrongKind, queryTerms}
+use Rattle.frames.proofs.Refusals.{Numbered, none, one, first-empty, first-zero, both-zero, numbered-append, first-le, first-some, first-none}
 use Rattle.frames.proofs.Heads.{head-numbered, headed, Headed}
 use Rattle.frames.proofs.Fields.{fields-end, fields-more, field-here, whole-on}
 use Rattle.frames.proofs.Conditions.{good-here, good-on}
@@ -90,12 +91,47 @@ pub terms-sound : (k most : ℕ) (f : List ℕ) (start : ℕ) (c : Cursor) → q
 unfolding queryFrame
 terms-sound k most f start c e = terms-case (queryRefusal k most f) f start c e
 
+-- and where it refuses, the table does
+refused-case : (n : ℕ) (f : List ℕ) (r : ℕ) → queryAs n f ≡ query.Refused r → (n ≡ r) × (0 < r)
+refused-case zero f r e = let z : _≡_ {A = ℕ} 0 1 = cc in absurd (omega arith)
+refused-case (suc n) f r e =
+    let p : suc n ≡ r = cc in
+    (p, omega arith)
+
+pub query-refused : (k most : ℕ) (f : List ℕ) (r : ℕ) → queryFrame k most f ≡ query.Refused r → (queryRefusal k most f ≡ r) × (0 < r)
+unfolding queryFrame
+query-refused k most f r e = refused-case (queryRefusal k most f) f r e
+
+-- rows behind those of a query: one of the query's decides, or none does
+pub query-first : (k most : ℕ) (f : List ℕ) (rs : List Row) → 0 < queryRefusal k most f → firstOf (queryRows k most f ++ rs) ≡ queryRefusal k most f
+unfolding queryRefusal
+query-first k most f rs h = first-some (queryRows k most f) rs h
+
+query-numbered : (k most : ℕ) (f : List ℕ) → Numbered (queryRows k most f)
+unfolding queryRows headRows
+query-numbered k most f =
+    one {r = 1 if wrongVersion f} (omega arith) (one {r = 2 if wrongLength f} (omega arith) (one {r = 3 if wrongKind k f} (omega arith) (one {r = 4 if wrongTerms most f} (omega arith) (one {r = 5 if badTerm f (terms f)} (omega arith) none))))
+
+pub query-passes : (k most : ℕ) (f : List ℕ) (rs : List Row) → queryRefusal k most f ≡ 0 → firstOf (queryRows k most f ++ rs) ≡ firstOf rs
+unfolding queryRefusal
+query-passes k most f rs z = first-none rs (query-numbered k most f) z
+
 -- a sound query's terms do not pass the end
 pub query-uncut : (most : ℕ) (f : List ℕ) → wrongTerms most f ≡ false → (firstTerm ≤ length f) × (passesEnd 0 f firstTerm ≡ false)
 unfolding wrongTerms
 query-uncut most f e =
     let b = or-right (ltb (length f) firstTerm) _ e in
     (ltb-false (length f) firstTerm (or-left (ltb (length f) firstTerm) _ e), or-left (passesEnd 0 f firstTerm) _ b)
+
+-- there is a term, and there are no more than the kind allows
+pub query-some : (most : ℕ) (f : List ℕ) → wrongTerms most f ≡ false → (firstTerm < length f) × (length (terms f) ≤ most)
+unfolding wrongTerms
+query-some most f e =
+    let b = or-right (passesEnd 0 f firstTerm) _ (or-right (ltb (length f) firstTerm) _ e) in
+    let n = eqb-false (length (terms f)) 0 (or-left (eqb (length (terms f)) 0) _ b) in (
+      by-lt firstTerm (length f) (λ h. h) (λ h. absurd (n (ap length (fields-end 0 f firstTerm h)))),
+      ltb-false most (length (terms f)) (or-right (eqb (length (terms f)) 0) _ b),
+    )
 
 -- so whole fields that are terms stand from the cursor on
 pub lines-ready : (f : List ℕ) (c : Cursor) → reportFrame f ≡ report.Lines c → (passesEnd countBytes f (c .at) ≡ false) × (badTerm f (fields countBytes f (c .at)) ≡ false)
@@ -181,3 +217,15 @@ module _ (f : List ℕ) where
       (first-le 7 _ _ (omega arith)
       (first-le 7 _ _ (omega arith)
       (first-le 7 _ _ (omega arith) (first-le 7 _ _ (omega arith) (first-le 7 _ _ (omega arith) (first-le 7 _ _ (omega arith) last))))))
+
+-- a query of at most one term names exactly one
+none-left : (s : List ℕ) → length s ≤ 0 → s ≡ []
+none-left [] h = refl
+none-left (x ∷ s) h = absurd (omega arith)
+
+pub terms-one : (f : List ℕ) → wrongTerms 1 f ≡ false → queryTerms f ≡ foldedAt f firstTerm ∷ []
+unfolding queryTerms
+terms-one f e =
+    let q = query-some 1 f e in
+    let m = fields-more 0 f firstTerm (q .0) in
+    rw (m, none-left (fields 0 f (pastField 0 f firstTerm)) (omega (arith, ap length m)))

@@ -2,7 +2,7 @@
 use mathlib.Core.Path.{_≡_}
 use Prim.Native.Nat.{ℕ, _≤_, _<_}
 use mathlib.Core.List.{List}
-use mathlib.Core.Bool.{Bool, true, cond}
+use mathlib.Core.Bool.{true, cond}
 use lib.Dec.{leb}
 use Rattle.basics.specs.Lists.{keep}
 use Rattle.blocks.specs.Fields.{capacity}

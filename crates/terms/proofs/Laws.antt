@@ -204,6 +204,11 @@ pub termOf-hash : (s : List ℕ) → termOf s .hash ≡ fnv1a (folded s)
 unfolding termOf
 termOf-hash s = refl
 
+-- that of bytes folded before is the same
+pub termOf-folded : (s : List ℕ) → termOf (folded s) ≡ termOf s
+unfolding termOf
+termOf-folded s = rw (folded-folded s, length-folded s)
+
 -- its bytes are 36
 pub termOf-room : (s : List ℕ) → length s ≤ maxTerm → length (termOf s .bytes) ≡ maxTerm
 unfolding termOf
@@ -235,8 +240,3 @@ nameIn-termOf s = ap (λ (n : ℕ). take n (termOf s .bytes)) (termOf-length s) 
 pub length-nameIn : (t : Term) → t .length ≤ length (t .bytes) → length (nameIn t) ≡ t .length
 unfolding nameIn
 length-nameIn t h = length-take-le (t .length) (t .bytes) h
-
--- folded bytes give the same term as the bytes themselves
-pub termOf-folded : (s : List ℕ) → termOf (folded s) ≡ termOf s
-unfolding termOf
-termOf-folded s = rw (folded-folded s, length-folded s)
