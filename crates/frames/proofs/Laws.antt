@@ -92,15 +92,15 @@ unfolding queryFrame
 terms-sound k most f start c e = terms-case (queryRefusal k most f) f start c e
 
 -- and where it refuses, the table does
-refused-case : (n : ℕ) (f : List ℕ) (r : ℕ) → queryAs n f ≡ query.Refused r → (n ≡ r) × (0 < r)
-refused-case zero f r e = let z : _≡_ {A = ℕ} 0 1 = cc in absurd (omega arith)
-refused-case (suc n) f r e =
+query-refused-case : (n : ℕ) (f : List ℕ) (r : ℕ) → queryAs n f ≡ query.Refused r → (n ≡ r) × (0 < r)
+query-refused-case zero f r e = let z : _≡_ {A = ℕ} 0 1 = cc in absurd (omega arith)
+query-refused-case (suc n) f r e =
     let p : suc n ≡ r = cc in
     (p, omega arith)
 
 pub query-refused : (k most : ℕ) (f : List ℕ) (r : ℕ) → queryFrame k most f ≡ query.Refused r → (queryRefusal k most f ≡ r) × (0 < r)
 unfolding queryFrame
-query-refused k most f r e = refused-case (queryRefusal k most f) f r e
+query-refused k most f r e = query-refused-case (queryRefusal k most f) f r e
 
 -- rows behind those of a query: one of the query's decides, or none does
 pub query-first : (k most : ℕ) (f : List ℕ) (rs : List Row) → 0 < queryRefusal k most f → firstOf (queryRows k most f ++ rs) ≡ queryRefusal k most f
