@@ -1,11 +1,8 @@
-// The plain ledger, and that index and ledger agree (demand 3). Theorems only.
-ghost use mathlib.Core.Path.{_≡_};
-ghost use Prim.Native.Nat.{_+_, _<_};
+// The plain ledger (document 01, "The plain ledger of demand 3"), and that index and ledger agree. Theorems only.
+ghost use Rattle.ledger.specs.Calls.{Claim};
 
-// One more, so that the crate has a body until the claim stands here.
-pub fn next(n: u32) -> u32
-    requires { ⌜ n < 4294967295 ⌝ }
-    ensures { λ r. ⌜ r ≡ n + 1 ⌝ }
-{
-    n + 1
-}
+// Demand 3, as a contract, so that the gate fails without it: over every list of calls after a first start, index and ledger share every answer, list,
+// refusal and count.
+pub fn ledger_agrees()
+    ensures { λ _. ⌜ Claim ⌝ }
+{}

@@ -1,0 +1,14 @@
+pub mod Ask
+pub mod Holds
+pub mod Plan
+pub mod Rep
+pub mod Lines
+pub mod Writing
+pub mod Frames
+pub mod Reports
+pub mod Look
+pub mod Listing
+pub mod ListingDistinct
+pub mod ListingStep
+pub mod Calls
+pub mod Agree
