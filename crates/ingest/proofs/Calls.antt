@@ -179,3 +179,12 @@ Answers m f r a t =
 -- are those of the call that it came to
 pub answers : (m : Memory) (f : List ℕ) {x : Called} → reportCall m f ≡ x → Answers m f (takenOf x) (x .left .arena) (x .left .table)
 answers m f e = rw e (refl, refl, refl)
+
+-- what is handed back of a call: its answer and its counters
+pub taken-answer : (c : Called) → takenOf c .answer ≡ c .answer
+unfolding takenOf
+taken-answer c = refl
+
+pub taken-counters : (c : Called) → takenOf c .counters ≡ c .left .counters
+unfolding takenOf
+taken-counters c = refl
