@@ -12,7 +12,8 @@ pub struct Term {
     pub hash: u32,
 }
 
-// The folded byte, or 0 where the byte is barred. Each function indexes it in its own loop: the table is laid out once a call.
+// The folded byte, or 0 where the byte is barred. A function copies it into a local before its loop: indexed as a constant it would be laid out
+// anew in every turn.
 const FOLDED: [u8; 256] = [
     0,
     0,
@@ -279,9 +280,10 @@ pub fn is_term(s: &[u8]) -> bool
     if s.len() == 0 || 36 < s.len() {
         return false;
     }
+    let table = FOLDED;
     let mut i: usize = 0;
     while i < s.len() {
-        if FOLDED[s[i] as usize] == 0 {
+        if table[s[i] as usize] == 0 {
             return false;
         }
         i += 1;
@@ -296,9 +298,10 @@ pub fn same_folded(a: &[u8], b: &[u8]) -> bool
     if a.len() != b.len() {
         return false;
     }
+    let table = FOLDED;
     let mut i: usize = 0;
     while i < a.len() {
-        if FOLDED[a[i] as usize] != FOLDED[b[i] as usize] {
+        if table[a[i] as usize] != table[b[i] as usize] {
             return false;
         }
         i += 1;
@@ -332,11 +335,12 @@ pub fn fold(s: &[u8]) -> Term
     requires { ⌜ length (now s) ≤ maxTerm ⌝ }
     ensures { λ r. ⌜ r ≡ termOf (now (s .entry)) ⌝ }
 {
+    let table = FOLDED;
     let mut bytes = [0u8; 36];
     let mut hash: u32 = 2166136261;
     let mut i: usize = 0;
     while i < s.len() {
-        let b = FOLDED[s[i] as usize];
+        let b = table[s[i] as usize];
         bytes[i] = b;
         hash = mix(hash, b);
         i += 1;

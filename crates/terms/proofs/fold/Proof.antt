@@ -37,10 +37,10 @@ whole s bytes hash i e h p =
     rw (b, e, m)
 
 abbrev Inv-loop : tie.InvT-loop
-Inv-loop s bytes₀ hash₀ i₀ bytes hash i = (i ≤ length s) × Left s bytes hash i
+Inv-loop s t bytes₀ hash₀ i₀ bytes hash i = (i ≤ length s) × Left s bytes hash i
 
 abbrev μ-loop : tie.MeasureT-loop
-μ-loop s bytes₀ hash₀ i₀ bytes hash i = length s - i
+μ-loop s t bytes₀ hash₀ i₀ bytes hash i = length s - i
 
 loop-holds : tie.Need-loop-holds Inv-loop μ-loop
 unfolding fnv1a

@@ -17,10 +17,10 @@ use Rattle.terms.proofs.is_term.Statement.{statement}
 use Rattle.terms.proofs.is_term.Tie as tie
 
 abbrev Inv-loop : tie.InvT-loop
-Inv-loop s i₀ i = all allowed s ≡ all allowed (drop i s)
+Inv-loop s t i₀ i = all allowed s ≡ all allowed (drop i s)
 
 abbrev μ-loop : tie.MeasureT-loop
-μ-loop s i₀ i = length s - i
+μ-loop s t i₀ i = length s - i
 
 returns : tie.Need-returns Inv-loop μ-loop
 returns c =

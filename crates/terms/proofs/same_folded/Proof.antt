@@ -18,10 +18,10 @@ use Rattle.terms.proofs.same_folded.Statement.{statement}
 use Rattle.terms.proofs.same_folded.Tie as tie
 
 abbrev Inv-loop : tie.InvT-loop
-Inv-loop a b i₀ i = same (folded a) (folded b) ≡ same (folded (drop i a)) (folded (drop i b))
+Inv-loop a b t i₀ i = same (folded a) (folded b) ≡ same (folded (drop i a)) (folded (drop i b))
 
 abbrev μ-loop : tie.MeasureT-loop
-μ-loop a b i₀ i = length a - i
+μ-loop a b t i₀ i = length a - i
 
 returns : tie.Need-returns Inv-loop μ-loop
 returns c =
