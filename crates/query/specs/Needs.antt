@@ -1,20 +1,26 @@
--- What the functions of this crate share: a named term's chain, and the postings of a head.
+-- What the functions of this crate share: a named term's chain, the postings of a head, and cursors that move forward together.
 use mathlib.Core.Path.{_≡_}
-use Prim.Native.Nat.{ℕ, _≤_, _<_}
-use mathlib.Core.List.{List}
-use mathlib.Core.Bool.{true, cond}
-use lib.Dec.{leb}
+use Prim.Native.Nat.{ℕ, suc, _-_, _≤_, _<_}
+use mathlib.Core.List.{List, [], map}
+use mathlib.Core.Bool.{Bool, true, false, cond, _||_}
+use lib.Dec.{leb, eqb}
+use lib.ListN.{length, getD, take}
 use Rattle.basics.specs.Lists.{keep}
-use Rattle.blocks.specs.Fields.{capacity}
+use Rattle.frames.specs.Frames.{firstTerm, queryRefusal, queryStart, queryTerms}
+use Rattle.counters.specs.Counters.{Memory}
+use Rattle.blocks.specs.Fields.{linkSize, headOf, capacity}
 use Rattle.blocks.specs.Prescribed.{Posting}
-use Rattle.chains.specs.Chains.{isWhole, chainOf}
+use Rattle.chains.specs.declared.Cursor.{Cursor}
+use Rattle.chains.specs.Chains.{Reading, run, atHead, isWhole, chainOf, Follows}
 use Rattle.lookup.specs.declared.Found.{Found}
 use Rattle.lookup.specs.declared.Found.the-variants as found
 use Rattle.counters.specs.declared.Counters.{Counters}
 use Rattle.query.specs.declared.Chain.{Chain}
 use Rattle.query.specs.declared.Chain.the-variants.{Damaged, Unknown, Sound}
+use Rattle.query.specs.declared.Chains.{Chains}
+use Rattle.query.specs.declared.Chains.the-variants as chains
 use Rattle.query.specs.declared.ListAnswer.{ListAnswer}
-use Rattle.query.specs.Listing.{ListedOne, postingsIn}
+use Rattle.query.specs.Listing.{ListedOne, ListedAll, postingsIn, holds, common, damagedTerms, matches}
 
 -- a term's chain as the search found it
 unfoldable pub chainAs : List ℕ → Counters → Found → Chain
@@ -34,3 +40,68 @@ fromStart a k h start = keep (λ p. leb start (p .number)) (postingsIn (chainOf 
 
 abbrev pub filledAs : ListAnswer → List ℕ → List ℕ → ListedOne
 filledAs r numbers counts = record { answer = r; numbers = numbers; counts = counts }
+
+-- ---- all terms
+
+abbrev pub allAs : ListAnswer → List ℕ → ListedAll
+allAs r numbers = record { answer = r; numbers = numbers }
+
+-- what is left to read from a cursor on
+abbrev pub left : List ℕ → Counters → Cursor → Reading
+left a k c = run (suc (k .reports - c .number)) a (k .used) (k .reports) c
+
+-- a cursor in a chain that is sound from there on
+pub record Stands (a : List ℕ) (k : Counters) (c : Cursor) : Type 0 where
+  pub follows : Follows a (k .used) c
+  pub far : linkSize ≤ c .end
+  pub sound : isWhole (left a k c) ≡ true
+
+-- report n is the one at the cursor or one behind it
+unfoldable pub ahead : List ℕ → Counters → Cursor → ℕ → Bool
+ahead a k c n = eqb (c .number) n || holds (postingsIn (left a k c)) n
+
+-- cursor r is c moved forward: it has the same reports from `number` on, and report `number` stands at it or nowhere
+pub record Sought (a : List ℕ) (k : Counters) (c : Cursor) (number : ℕ) (r : Cursor) : Type 0 where
+  pub stands : Stands a k r
+  pub same : (n : ℕ) → number ≤ n → ahead a k c n ≡ ahead a k r n
+  pub here : ahead a k r number ≡ eqb (r .number) number
+
+-- the reports of a head's chain
+abbrev pub postingsAt : List ℕ → Counters → ℕ → List Posting
+postingsAt a k h = postingsIn (chainOf a (k .used) (k .reports) h)
+
+-- 1 to 8 heads with sound chains
+pub record Heads (a : List ℕ) (k : Counters) (hs : List ℕ) (count : ℕ) : Type 0 where
+  pub some : 0 < count
+  pub few : count ≤ 8
+  pub there : count ≤ length hs
+  pub readable : (i : ℕ) → i < count → Readable a k (getD hs i 0)
+
+-- what stands in the places that no head has
+abbrev pub nowhere : Cursor
+nowhere = record { tail = 0; end = 0; block = 0; at = 0; number = 0; first = 0; left = 0 }
+
+-- a cursor before the first posting of each head
+pub record Opened (a : List ℕ) (k : Counters) (hs : List ℕ) (count : ℕ) (cs : List Cursor) : Type 0 where
+  pub eight : length cs ≡ 8
+  pub at : (i : ℕ) → i < count → getD cs i nowhere ≡ atHead (headOf a (getD hs i 0)) (k .used) (getD hs i 0)
+
+-- the reports that all heads' chains hold, at or past the start
+unfoldable pub allFrom : List ℕ → Counters → List ℕ → ℕ → ℕ → List Posting
+allFrom a k hs count start = common start (map (postingsAt a k) (take count hs))
+
+-- a sound query's frame from its first term on, with room for its heads
+pub record Named (a : List ℕ) (k : Counters) (f : List ℕ) (at : ℕ) (hs : List ℕ) : Type 0 where
+  pub inside : k .used ≤ capacity a
+  pub sound : queryRefusal 3 8 f ≡ 0
+  pub start : at ≡ firstTerm
+  pub room : length hs ≡ 8
+
+-- what the chains of the named terms tell: damage; or that nothing matches; or the matches, by the heads
+unfoldable pub Told : Memory → List ℕ → List ℕ → Chains → Type 0
+Told m f hs chains.Damaged = damagedTerms m (queryTerms f) ≡ true
+Told m f hs chains.Unknown = (damagedTerms m (queryTerms f) ≡ false) × (matches m f ≡ [])
+Told m f hs (chains.Sound n) =
+    (damagedTerms m (queryTerms f) ≡ false)
+    × Heads (m .arena) (m .counters) hs n
+    × (matches m f ≡ allFrom (m .arena) (m .counters) hs n (queryStart f))

@@ -1,0 +1,162 @@
+-- A cursor that moves forward: which reports it has at it and behind it.
+-- Assumes nothing.
+use Prim.Native.Nat.{ℕ, _+_, _≤_, _<_}
+use mathlib.Core.Path.{_≡_, refl, sym, ap, _∙_}
+use mathlib.Core.Bool.{Bool, true, false, _||_}
+use mathlib.Core.List.{List, [], _∷_}
+use native.Mathlib.Omega.{arith}
+use lib.Dec.{eqb}
+use lib.ListN.{getD, set, length-set}
+use lib.Seq.{getD-set-same, getD-set-other}
+use Rattle.basics.proofs.Cases.{by-eq}
+use borrow.Author.Tests.{ne-eqb}
+use Rattle.basics.specs.Lists.{any}
+use Rattle.blocks.specs.Fields.{headOf, capacity}
+use Rattle.blocks.specs.Prescribed.{Posting}
+use Rattle.chains.specs.declared.Cursor.{Cursor}
+use Rattle.chains.specs.declared.Step.{Step}
+use Rattle.chains.specs.declared.Step.the-variants as step
+use Rattle.chains.specs.Chains.{whole, isWhole, stepAt, atHead, chainOf}
+use Rattle.chains.proofs.Laws.{step-follows, rest, whole-posting, whole-end, whole-undamaged, head-follows, head-rest, is-whole, chain-whole}
+use Rattle.counters.specs.declared.Counters.{Counters}
+use Rattle.query.specs.Listing.{postingsIn, holds}
+use Rattle.query.specs.Needs.{Readable, Stands, Sought, Opened, nowhere, ahead, postingsAt}
+
+or-false : (a : Bool) → a || false ≡ a
+or-false true = refl
+or-false false = refl
+
+first-same : {p q : Posting} {ps qs : List Posting} → p ∷ ps ≡ q ∷ qs → p ≡ q
+first-same e = cc
+
+rest-same : {p q : Posting} {ps qs : List Posting} → p ∷ ps ≡ q ∷ qs → ps ≡ qs
+rest-same e = cc
+
+-- one more posting
+holds-cons : (p : Posting) (ps : List Posting) (n : ℕ) → holds (p ∷ ps) n ≡ eqb (p .number) n || holds ps n
+unfolding holds any
+holds-cons p ps n = refl
+
+holds-none : (n : ℕ) → holds [] n ≡ false
+unfolding holds any
+holds-none n = refl
+
+module _ (a : List ℕ) (k : Counters) where
+  -- where the rest is known, the reports ahead are
+  ahead-is : (c : Cursor) (ps : List Posting) → rest a (k .used) (k .reports) c ≡ whole ps → (n : ℕ) → ahead a k c n ≡ eqb (c .number) n || holds ps n
+  unfolding ahead postingsIn
+  ahead-is c ps w n = rw w
+
+  -- behind a cursor there is no report up to its own
+  none-before : (ps : List Posting) (c : Cursor) (n : ℕ) → rest a (k .used) (k .reports) c ≡ whole ps → n ≤ c .number → holds ps n ≡ false
+  none-before [] c n w h = holds-none n
+  none-before (p ∷ ps) c n w h = go (stepAt a (k .used) (k .reports) c) refl (none-before ps)
+    where
+      go : (s : Step) → stepAt a (k .used) (k .reports) c ≡ s
+          → ((c′ : Cursor) (n : ℕ) → rest a (k .used) (k .reports) c′ ≡ whole ps → n ≤ c′ .number → holds ps n ≡ false) → holds (p ∷ ps) n ≡ false
+      go (step.Posting m f c′) e ih =
+          let s = step-follows a (k .used) (k .reports) c e in
+          let v = whole-posting a (k .used) (k .reports) c (p ∷ ps) w e in
+          let x : ps ≡ v .0 = rest-same (v .2) in
+          let y : p .number ≡ m = ap (λ (q : Posting). q .number) (first-same (v .2)) in
+          let z : p .number ≡ n → ⊥ = λ q. omega (arith, s .ascends) in
+          holds-cons p ps n ∙ rw (ne-eqb (p .number) n z) (ih c′ n (v .1 ∙ ap whole (sym x)) (omega (arith, s .number, s .ascends)))
+      go step.End e ih = let z : _≡_ {A = ℕ} 0 1 = cc (whole-end a (k .used) (k .reports) c (p ∷ ps) w e) in absurd (omega arith)
+      go step.Damaged e ih = absurd (whole-undamaged a (k .used) (k .reports) c (p ∷ ps) w e)
+
+module _ {a : List ℕ} {k : Counters} {c : Cursor} (s : Stands a k c) where
+  reads : (ps : List Posting) × (rest a (k .used) (k .reports) c ≡ whole ps)
+  reads = is-whole (rest a (k .used) (k .reports) c) (s .sound)
+
+  -- damage is never met
+  pub stands-undamaged : stepAt a (k .used) (k .reports) c ≡ step.Damaged → ⊥
+  stands-undamaged e = whole-undamaged a (k .used) (k .reports) c (reads .0) (reads .1) e
+
+  -- at the chain's end only the report at the cursor is left
+  pub ahead-end : stepAt a (k .used) (k .reports) c ≡ step.End → (n : ℕ) → ahead a k c n ≡ eqb (c .number) n
+  ahead-end e n =
+      let z : reads .0 ≡ [] = whole-end a (k .used) (k .reports) c (reads .0) (reads .1) e in
+      ahead-is a k c [] (reads .1 ∙ ap whole z) n ∙ rw (holds-none n) (or-false (eqb (c .number) n))
+
+  -- up to the cursor's report too
+  pub ahead-here : (n : ℕ) → n ≤ c .number → ahead a k c n ≡ eqb (c .number) n
+  ahead-here n h = ahead-is a k c (reads .0) (reads .1) n ∙ rw (none-before a k (reads .0) c n (reads .1) h) (or-false (eqb (c .number) n))
+
+  module _ {m f : ℕ} {c′ : Cursor} (e : stepAt a (k .used) (k .reports) c ≡ step.Posting m f c′) where
+    -- one step on
+    pub stands-on : Stands a k c′
+    unfolding isWhole
+    stands-on =
+        let t = step-follows a (k .used) (k .reports) c e in
+        let v = whole-posting a (k .used) (k .reports) c (reads .0) (reads .1) e in
+        record { follows = t .follows (s .follows); far = rw (t .end) (s .far); sound = ap isWhole (v .1) }
+
+    -- only the report left behind is no longer ahead
+    pub ahead-on : (n : ℕ) → c .number < n → ahead a k c n ≡ ahead a k c′ n
+    ahead-on n h =
+        let t = step-follows a (k .used) (k .reports) c e in
+        let v = whole-posting a (k .used) (k .reports) c (reads .0) (reads .1) e in
+        let z : c .number ≡ n → ⊥ = λ q. omega arith in
+        let p : Posting = record { number = m; count = f } in
+        let x : ahead a k c n ≡ eqb m n || holds (v .0) n
+        = ahead-is a k c (p ∷ v .0) (reads .1 ∙ ap whole (v .2)) n ∙ rw (ne-eqb (c .number) n z) (holds-cons p (v .0) n) in
+        let y : ahead a k c′ n ≡ eqb m n || holds (v .0) n = ahead-is a k c′ (v .0) (v .1) n ∙ ap (λ (x : ℕ). eqb x n || holds (v .0) n) (t .number) in
+        x ∙ sym y
+
+-- a cursor on its way to a report
+pub record Passing (a : List ℕ) (k : Counters) (c₀ : Cursor) (number : ℕ) (c : Cursor) : Type 0 where
+  pub stands : Stands a k c
+  pub same : (n : ℕ) → number ≤ n → ahead a k c₀ n ≡ ahead a k c n
+
+module _ {a : List ℕ} {k : Counters} {c₀ : Cursor} {number : ℕ} {c : Cursor} (p : Passing a k c₀ number c) where
+  pub passing-on : {m f : ℕ} {c′ : Cursor} → c .number < number → stepAt a (k .used) (k .reports) c ≡ step.Posting m f c′ → Passing a k c₀ number c′
+  passing-on h e = record { stands = stands-on (p .stands) e; same = λ n i. p .same n i ∙ ahead-on (p .stands) e n (omega arith) }
+
+  -- it is there, or the chain ends before
+  pub arrived : number ≤ c .number → Sought a k c₀ number c
+  arrived h = record { stands = p .stands; same = p .same; here = ahead-here (p .stands) number h }
+
+  pub stopped : stepAt a (k .used) (k .reports) c ≡ step.End → Sought a k c₀ number c
+  stopped e = record { stands = p .stands; same = p .same; here = ahead-end (p .stands) e number }
+
+-- ---- the chain of a head
+
+-- a cursor that has the reports from `low` on of a head's chain
+pub record Stream (a : List ℕ) (k : Counters) (h low : ℕ) (c : Cursor) : Type 0 where
+  pub stands : Stands a k c
+  pub same : (n : ℕ) → low ≤ n → holds (postingsAt a k h) n ≡ ahead a k c n
+
+module _ {a : List ℕ} {k : Counters} {h : ℕ} (r : Readable a k h) where
+  -- all its postings are behind the cursor before the first
+  pub head-reads : (ps : List Posting) × (chainOf a (k .used) (k .reports) h ≡ whole ps) × (rest a (k .used) (k .reports) (atHead (headOf a h) (k .used) h) ≡ whole ps)
+  head-reads =
+      let w = is-whole (chainOf a (k .used) (k .reports) h) (r .sound) in
+      (w .0, w .1, sym (head-rest a (k .used) (k .reports) h (headOf a h)) ∙ chain-whole a (k .used) (k .reports) h (w .0) (w .1) .reads)
+
+  pub head-stands : Stands a k (atHead (headOf a h) (k .used) h)
+  unfolding atHead capacity isWhole
+  head-stands =
+      let w = is-whole (chainOf a (k .used) (k .reports) h) (r .sound) in
+      let v = chain-whole a (k .used) (k .reports) h (w .0) (w .1) in
+      let f = head-follows a (k .used) h (headOf a h) (omega (arith, r .inside)) (r .in-use) (v .good) in
+      record { follows = f .0; far = f .1; sound = ap isWhole (head-reads .2) }
+
+  pub head-stream : Stream a k h 1 (atHead (headOf a h) (k .used) h)
+  unfolding atHead postingsIn
+  head-stream = record {
+    stands = head-stands;
+    same = λ n i.
+        let z : 0 ≡ n → ⊥ = λ q. omega arith in
+        rw (head-reads .1) (sym (ahead-is a k (atHead (headOf a h) (k .used) h) (head-reads .0) (head-reads .2) n ∙ rw (ne-eqb 0 n z)));
+  }
+
+-- one cursor more is opened
+pub opened-more : (a : List ℕ) (k : Counters) (hs : List ℕ) (i : ℕ) (cs : List Cursor) (c : Cursor) → i < 8 → c ≡ atHead (headOf a (getD hs i 0)) (k .used) (getD hs i 0)
+    → Opened a k hs i cs → Opened a k hs (i + 1) (set cs i c)
+opened-more a k hs i cs c h e o = record {
+  eight = length-set cs i c ∙ o .eight;
+  at = λ j l.
+      by-eq j i
+      (λ q. rw q (getD-set-same cs i c nowhere (omega (arith, o .eight)) ∙ e))
+      (λ q. getD-set-other cs i j c nowhere q ∙ o .at j (omega arith));
+}
