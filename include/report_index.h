@@ -42,4 +42,10 @@ struct report_index_list_answer report_index_list_one(
     const struct report_index_counters *counters, const uint8_t *frame, size_t frame_length,
     uint32_t *numbers, size_t numbers_length, uint32_t *counts, size_t counts_length);
 
+/* Lists the reports that hold all of 1 to 8 terms (frame of kind 03). */
+struct report_index_list_answer report_index_list_all(
+    const uint8_t *arena, size_t arena_length, const uint32_t *table, size_t table_length,
+    const struct report_index_counters *counters, const uint8_t *frame, size_t frame_length,
+    uint32_t *numbers, size_t numbers_length);
+
 #endif

@@ -5,8 +5,8 @@ ghost use mathlib.Core.List.{[]};
 ghost use lib.ListN.{length, replicate};
 ghost use Rattle.counters.specs.Counters.{memory};
 ghost use Rattle.ingest.specs.Report.{reportCall};
-ghost use Rattle.query.specs.Listing.{listOneCall};
-ghost use Rattle.query.specs.Needs.{filledAs};
+ghost use Rattle.query.specs.Listing.{listOneCall, listAllCall};
+ghost use Rattle.query.specs.Needs.{filledAs, allAs};
 ghost use Rattle.ledger.specs.Calls.{cleared};
 use counters::Counters;
 use ingest::ReportAnswer;
@@ -68,4 +68,18 @@ pub extern "C" fn report_index_list_one(
     ensures { λ r. ⌜ filledAs r (now (numbers .exit)) (now (counts .exit)) ≡ listOneCall (memory (now (arena .entry)) (now (table .entry)) (now (counters .entry))) (now (frame .entry)) (now (numbers .entry)) (now (counts .entry)) ⌝ }
 {
     query::list_one(arena, table, *counters, frame, numbers, counts)
+}
+
+// Lists the reports that hold all of 1 to 8 terms: how many numbers were filled in, and whether more remain.
+#[no_mangle]
+pub extern "C" fn report_index_list_all(
+    arena: &[u8],
+    table: &[u32],
+    counters: &Counters,
+    frame: &[u8],
+    numbers: &mut [u32],
+) -> ListAnswer
+    ensures { λ r. ⌜ allAs r (now (numbers .exit)) ≡ listAllCall (memory (now (arena .entry)) (now (table .entry)) (now (counters .entry))) (now (frame .entry)) (now (numbers .entry)) ⌝ }
+{
+    query::list_all(arena, table, *counters, frame, numbers)
 }
