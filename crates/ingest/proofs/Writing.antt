@@ -12,7 +12,7 @@ use Rattle.basics.proofs.Cases.{by-eq}
 use Rattle.frames.specs.Refusals.{firstOf}
 use Rattle.frames.specs.Frames.{Line, countBytes, firstLine, pastField, lineAt, reportLines, reportRefusal}
 use Rattle.frames.proofs.Laws.{Sound, sound-on, sound-lines, lines-more, lines-end}
-use Rattle.blocks.specs.Fields.{maxWord, headOf}
+use Rattle.blocks.specs.Fields.{maxWord}
 use Rattle.blocks.proofs.Capacity.{capacity-as}
 use Rattle.blocks.proofs.Writes.{length-openHead, length-addTo, length-joinTo}
 use Rattle.lookup.proofs.Search.{length-enter}
@@ -62,9 +62,9 @@ module _ (m : Memory) (n : ℕ) (l : Line) where
   pub written-arena : (p : Place) → length (written m n l p .arena) ≡ length (m .arena)
   unfolding written
   written-arena Damaged = refl
-  written-arena (New s) = length-openHead (m .arena) (m .counters .used) (l .term) n (l .count)
-  written-arena (Stays h) = length-addTo (m .arena) h (headOf (m .arena) h) n (l .count)
-  written-arena (Spills h) = length-joinTo (m .arena) h (headOf (m .arena) h) (m .counters .used) n (l .count)
+  written-arena (New s) = rw length-openHead
+  written-arena (Stays h) = rw length-addTo
+  written-arena (Spills h) = rw length-joinTo
 
   pub written-table : (p : Place) → length (written m n l p .table) ≡ length (m .table)
   unfolding written
