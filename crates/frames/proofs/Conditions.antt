@@ -1,30 +1,43 @@
 -- Refusals 5 and 6, judged from one field to the next.
 -- Assumes nothing.
 use mathlib.Core.Path.{_≡_, refl, sym, ap, _∙_}
-use mathlib.Core.Bool.{Bool, true, false, not}
-use mathlib.Core.List.{List}
+use mathlib.Core.Bool.{Bool, true, false}
+use mathlib.Core.List.{List, [], _∷_}
 use Prim.Native.Nat.{ℕ, _≤_, _<_}
 use native.Mathlib.Omega.{arith}
 use lib.Dec.{eqb}
 use lib.ListN.{length}
 use borrow.Author.Tests.{eq-eqb, ne-eqb}
+use Rattle.basics.specs.Lists.{any}
 use Rattle.terms.specs.Terms.{isTerm}
 use Rattle.frames.specs.Frames.{termAt, countAt, pastField, fields, badTerm, zeroCount}
-use Rattle.frames.proofs.Fields.{any-end, any-here, any-on}
+use Rattle.frames.proofs.Fields.{fields-end, fields-more, any-end, any-here, any-on}
+
+-- refusal 5 over a list of fields: none of none is bad; a field that is not a term decides, one that is a term is passed over
+module _ (f : List ℕ) where
+  bad-none : badTerm f [] ≡ false
+  unfolding badTerm any
+  bad-none = refl
+
+  module _ (at : ℕ) (ats : List ℕ) where
+    bad-first : isTerm (termAt f at) ≡ false → badTerm f (at ∷ ats) ≡ true
+    unfolding badTerm any
+    bad-first e = rw e
+
+    bad-rest : isTerm (termAt f at) ≡ true → badTerm f (at ∷ ats) ≡ badTerm f ats
+    unfolding badTerm any
+    bad-rest e = rw e
 
 module _ (tail : ℕ) (f : List ℕ) (at : ℕ) where
   pub bad-end : length f ≤ at → badTerm f (fields tail f at) ≡ false
-  unfolding badTerm
-  bad-end h = any-end tail f (λ at. not (isTerm (termAt f at))) at h
+  bad-end h = ap (badTerm f) (fields-end tail f at h) ∙ bad-none f
 
   module _ (h : at < length f) where
     pub bad-here : isTerm (termAt f at) ≡ false → badTerm f (fields tail f at) ≡ true
-    unfolding badTerm
-    bad-here e = any-here tail f (λ at. not (isTerm (termAt f at))) at h (ap not e)
+    bad-here e = ap (badTerm f) (fields-more tail f at h) ∙ bad-first f at _ e
 
     pub bad-on : isTerm (termAt f at) ≡ true → badTerm f (fields tail f at) ≡ badTerm f (fields tail f (pastField tail f at))
-    unfolding badTerm
-    bad-on e = any-on tail f (λ at. not (isTerm (termAt f at))) at h (ap not e)
+    bad-on e = ap (badTerm f) (fields-more tail f at h) ∙ bad-rest f at _ e
 
   -- where no field is bad, the one here is a term, and none is bad from the next on
   module _ (h : at < length f) (g : badTerm f (fields tail f at) ≡ false) where

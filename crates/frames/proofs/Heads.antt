@@ -1,14 +1,15 @@
 -- Refusals 1 to 3, which every call judges first.
 -- Assumes nothing.
-use mathlib.Core.Path.{_≡_}
+use mathlib.Core.Path.{_≡_, refl}
 use mathlib.Core.List.{List}
 use Prim.Native.Nat.{ℕ, _+_, _-_, _≤_, _<_}
 use native.Mathlib.Omega.{arith}
 use lib.ListN.{length}
 use borrow.Author.Tests.{lt-ltb, le-ltb, eq-eqb, ne-eqb}
 use Rattle.basics.proofs.Cases.{by-lt, by-eq}
-use Rattle.frames.specs.Refusals.{_if_, firstOf}
-use Rattle.frames.proofs.Refusals.{Numbered, none, one}
+use Rattle.basics.specs.Lists.{all}
+use Rattle.frames.specs.Refusals.{firstOf}
+use Rattle.frames.proofs.Refusals.{Numbered, numbered}
 use Rattle.frames.specs.Frames.{version, bodyLength, kind, maxBody, wrongVersion, wrongLength, wrongKind, headRows}
 
 module _ (k : ℕ) (f : List ℕ) where
@@ -44,8 +45,8 @@ module _ (k : ℕ) (f : List ℕ) where
               rw (le-ltb (length f) 4 h, eq-eqb (version f) 1 v, le-ltb maxBody (bodyLength f) b, eq-eqb (bodyLength f) (length f - 3) e, eq-eqb (kind f) k q)
 
   pub head-numbered : Numbered (headRows k f)
-  unfolding headRows
-  head-numbered = one {r = 1 if wrongVersion f} (omega arith) (one {r = 2 if wrongLength f} (omega arith) (one {r = 3 if wrongKind k f} (omega arith) none))
+  unfolding headRows all
+  head-numbered = numbered (headRows k f) refl
 
   -- a frame that none of the three refuses
   pub record Headed : Type 0 where

@@ -1,6 +1,6 @@
 -- What the crates above use of frames: what a frame that is not refused holds, and how its lines and terms are read one after another.
 -- Assumes nothing.
-use mathlib.Core.Path.{_≡_, refl, sym, ap}
+use mathlib.Core.Path.{_≡_, refl, sym, ap, _∙_}
 use mathlib.Core.Bool.{false}
 use mathlib.Core.List.{List, [], _∷_, _++_, map}
 use Prim.Native.Nat.{ℕ, zero, suc, _+_, _≤_, _<_}
@@ -8,6 +8,7 @@ use native.Mathlib.Omega.{arith}
 use lib.Dec.{ltb, eqb}
 use lib.ListN.{length}
 use borrow.Author.Tests.{ltb-false, eqb-false}
+use Rattle.basics.specs.Lists.{all}
 use Rattle.basics.proofs.Cases.{by-lt}
 use Rattle.basics.proofs.Lists.{or-left, or-right}
 use Rattle.terms.specs.Terms.{maxTerm}
@@ -16,11 +17,12 @@ use Rattle.frames.specs.declared.Cursor.{Cursor}
 use Rattle.frames.specs.declared.Report.the-variants as report
 use Rattle.frames.specs.declared.Query.the-variants as query
 use Rattle.frames.specs.Refusals.{Row, _if_, firstOf}
-use Rattle.frames.specs.Frames.{maxBody, countBytes, firstLine, firstTerm, termAt, pastField, Field, fields, lines, terms, passesEnd, wrongTerms, badTerm, zeroCount, repeatedTerm, headRows, reportRows, queryRows, reportRefusal, queryRefusal, lineAt, foldedAt, reportAs, reportFrame, queryStart, queryAs, queryFrame, wrongVersion, wrongLength, wrongKind, queryTerms}
-use Rattle.frames.proofs.Refusals.{Numbered, none, one, first-empty, first-zero, both-zero, numbered-append, first-le, first-some, first-none}
+use Rattle.frames.specs.Frames.{maxBody, countBytes, firstLine, firstTerm, termAt, pastField, Field, fields, lines, terms, passesEnd, wrongTerms, badTerm, zeroCount, repeatedTerm, headRows, reportRows, queryRows, reportRefusal, queryRefusal, lineAt, foldedAt, reportAs, reportFrame, queryStart, queryAs, queryFrame, queryTerms}
+use Rattle.frames.proofs.Refusals.{Numbered, numbered, first-empty, first-zero, both-zero, first-le, first-some, first-none}
 use Rattle.frames.proofs.Heads.{head-numbered, headed, Headed}
 use Rattle.frames.proofs.Fields.{fields-end, fields-more, field-here, whole-on}
 use Rattle.frames.proofs.Conditions.{good-here, good-on}
+use Rattle.frames.proofs.Reports.{lines-judged, none-holds}
 
 -- ---- frames that are not refused
 
@@ -35,13 +37,10 @@ pub record SoundReport (f : List ℕ) : Type 0 where
 pub sound-report : (f : List ℕ) → reportRefusal f ≡ 0 → SoundReport f
 unfolding reportRefusal reportRows
 sound-report f z =
-    let h = both-zero _ (head-numbered 1 f) z in
-    let d : Headed 1 f = headed 1 f (h .0) in
-    let r₄ = first-zero (4 if passesEnd countBytes f firstLine) _ (omega arith) (h .1) in
-    let r₅ = first-zero (5 if badTerm f (lines f)) _ (omega arith) (r₄ .1) in
-    let r₆ = first-zero (6 if zeroCount f (lines f)) _ (omega arith) (r₅ .1) in
-    let r₇ = first-zero (7 if repeatedTerm f (lines f)) [] (omega arith) (r₆ .1) in
-    record { long = d .long; short = d .short; uncut = r₄ .0; good = r₅ .0; counted = r₆ .0; distinct = r₇ .0 }
+    let h = both-zero _ (head-numbered 1 f) z .0 in
+    let d : Headed 1 f = headed 1 f h in
+    let l = none-holds f (sym (lines-judged f h) ∙ z) in
+    record { long = d .long; short = d .short; uncut = l .0; good = l .1; counted = l .2; distinct = l .3 }
 
 pub record SoundQuery (most : ℕ) (f : List ℕ) : Type 0 where
   pub right : wrongTerms most f ≡ false
@@ -107,10 +106,9 @@ pub query-first : (k most : ℕ) (f : List ℕ) (rs : List Row) → 0 < queryRef
 unfolding queryRefusal
 query-first k most f rs h = first-some (queryRows k most f) rs h
 
-query-numbered : (k most : ℕ) (f : List ℕ) → Numbered (queryRows k most f)
-unfolding queryRows headRows
-query-numbered k most f =
-    one {r = 1 if wrongVersion f} (omega arith) (one {r = 2 if wrongLength f} (omega arith) (one {r = 3 if wrongKind k f} (omega arith) (one {r = 4 if wrongTerms most f} (omega arith) (one {r = 5 if badTerm f (terms f)} (omega arith) none))))
+pub query-numbered : (k most : ℕ) (f : List ℕ) → Numbered (queryRows k most f)
+unfolding queryRows headRows all
+query-numbered k most f = numbered (queryRows k most f) refl
 
 pub query-passes : (k most : ℕ) (f : List ℕ) (rs : List Row) → queryRefusal k most f ≡ 0 → firstOf (queryRows k most f ++ rs) ≡ firstOf rs
 unfolding queryRefusal
@@ -189,28 +187,9 @@ module _ {tail : ℕ} {f : List ℕ} {at : ℕ} (s : Sound tail f at) (h : at < 
 -- ---- the numbers of a report's table
 
 module _ (f : List ℕ) where
-  lineRows : List Row
-  lineRows =
-      (4 if passesEnd countBytes f firstLine)
-      ∷ (5 if badTerm f (lines f))
-      ∷ (6 if zeroCount f (lines f))
-      ∷ (7 if repeatedTerm f (lines f))
-      ∷ []
-
-  line-numbered : Numbered lineRows
-  unfolding lineRows
-  line-numbered =
-      one {r = 4 if passesEnd countBytes f firstLine} (omega arith)
-      (one {r = 5 if badTerm f (lines f)} (omega arith)
-      (one {r = 6 if zeroCount f (lines f)} (omega arith) (one {r = 7 if repeatedTerm f (lines f)} (omega arith) none)))
-
-  pub report-numbered : Numbered (reportRows f)
-  unfolding reportRows lineRows
-  report-numbered = numbered-append (head-numbered 1 f) line-numbered
-
   -- a report's frame is refused with 1 to 7
   pub report-le : reportRefusal f ≤ 7
-  unfolding reportRefusal reportRows headRows lineRows
+  unfolding reportRefusal reportRows headRows
   report-le =
       let last : firstOf [] ≤ 7 = rw first-empty (omega arith) in
       first-le 7 _ _ (omega arith)

@@ -2,16 +2,29 @@
 -- Assumes nothing.
 use mathlib.Core.Path.{_≡_, refl, sym, _∙_}
 use mathlib.Core.Bool.{Bool, true, false}
-use mathlib.Core.List.{List, [], _∷_, _++_}
+use mathlib.Core.List.{List, [], _∷_, _++_, map}
 use Prim.Native.Nat.{ℕ, _≤_, _<_}
 use native.Mathlib.Omega.{arith}
+use lib.Dec.{ltb}
+use borrow.Author.Tests.{ltb-true}
+use Rattle.basics.specs.Lists.{all}
 use Rattle.basics.proofs.Cases.{by-eq}
+use Rattle.basics.proofs.Lists.{and-left, and-right}
 use Rattle.frames.specs.Refusals.{Row, firstOf}
 
 -- every row has a number above 0, so that 0 means that none holds
 pub data Numbered : List Row → Type 0 where
   none : Numbered []
   one : {r : Row} {rs : List Row} → 0 < r .number → Numbered rs → Numbered (r ∷ rs)
+
+-- shown by computing over the numbers alone
+pub numbered : (rs : List Row) → all (ltb 0) (map (λ r. r .number) rs) ≡ true → Numbered rs
+unfolding all
+numbered [] e = none
+numbered (r ∷ rs) e =
+    let n = ltb 0 (r .number) in
+    let ns = all (ltb 0) (map (λ (r : Row). r .number) rs) in
+    one (ltb-true 0 (r .number) (and-left n ns e)) (numbered rs (and-right n ns e))
 
 pub first-empty : firstOf [] ≡ 0
 unfolding firstOf
@@ -59,12 +72,6 @@ append-case {a} b n z = by-eq (firstOf a) 0 (λ e. e) (λ p. absurd (p (sym (fir
 
 pub both-zero : {a : List Row} (b : List Row) → Numbered a → firstOf (a ++ b) ≡ 0 → (firstOf a ≡ 0) × (firstOf b ≡ 0)
 both-zero {a} b n z = let e = append-case b n z in (e, sym (first-none b n e) ∙ z)
-
--- ---- parts of a table
-
-pub numbered-append : {a b : List Row} → Numbered a → Numbered b → Numbered (a ++ b)
-numbered-append none n = n
-numbered-append (one p m) n = one p (numbered-append m n)
 
 -- the number found is at most n where all numbers are
 le-case : (t : Bool) (n : ℕ) (r : Row) (rs : List Row) → r .holds ≡ t → r .number ≤ n → firstOf rs ≤ n → firstOf (r ∷ rs) ≤ n

@@ -12,7 +12,8 @@ use Rattle.basics.proofs.Cases.{by-eq}
 use Rattle.frames.specs.Refusals.{Row, _if_, firstOf}
 use Rattle.frames.specs.Frames.{reportRows, reportRefusal, reportLines}
 use Rattle.frames.proofs.Refusals.{first-holds, first-passes, first-some, first-none, first-zero, both-zero, first-le, append-le}
-use Rattle.frames.proofs.Laws.{report-numbered, report-le}
+use Rattle.frames.proofs.Reports.{report-numbered}
+use Rattle.frames.proofs.Laws.{report-le}
 use Rattle.blocks.specs.Fields.{maxWord}
 use Rattle.counters.specs.Counters.{Memory, wrongCounters}
 use Rattle.counters.proofs.Laws.{Right, right}

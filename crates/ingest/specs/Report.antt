@@ -1,5 +1,5 @@
 -- Taking a report (document 01, "Taking a report, listing reports"; rows 8 to 13 of "Where each refusal is checked").
-use Prim.Native.Nat.{ℕ, zero, suc, _+_, _-_}
+use Prim.Native.Nat.{ℕ, _+_, _-_}
 use mathlib.Core.List.{List, [], _∷_, _++_, map}
 use mathlib.Core.Bool.{Bool, true, false, cond, _||_}
 use lib.Dec.{ltb, eqb}
@@ -16,7 +16,7 @@ use Rattle.lookup.specs.declared.Found.{Found}
 use Rattle.lookup.specs.declared.Found.the-variants as found
 use Rattle.lookup.specs.Lookup.{search, enter}
 use Rattle.counters.specs.declared.Counters.{Counters}
-use Rattle.counters.specs.Counters.{Memory, memory, maxTerms, wrongCounters}
+use Rattle.counters.specs.Counters.{Memory, maxTerms, wrongCounters}
 use Rattle.ingest.specs.declared.Place.{Place}
 use Rattle.ingest.specs.declared.Place.the-variants.{Damaged, New, Stays, Spills}
 use Rattle.ingest.specs.declared.Plan.{Plan}

@@ -9,7 +9,8 @@ use Rattle.basics.proofs.Cases.{by-eq}
 use Rattle.frames.specs.Refusals.{firstOf}
 use Rattle.frames.specs.Frames.{lines, foldedAt, lineAt, repeatsAfter, repeatedTerm, reportRefusal, reportLines}
 use Rattle.frames.proofs.Refusals.{both-zero}
-use Rattle.frames.proofs.Laws.{SoundReport, sound-report, report-numbered}
+use Rattle.frames.proofs.Reports.{report-numbered}
+use Rattle.frames.proofs.Laws.{SoundReport, sound-report}
 use Rattle.ledger.specs.Ledger.{Report, ledgerRows, enterReport}
 use Rattle.ledger.proofs.Listing.{termsIn, Distinct, distinct-more}
 

@@ -14,9 +14,9 @@ use Rattle.basics.proofs.Lists.{or-left, or-right}
 use Rattle.terms.specs.Terms.{isTerm, folded}
 use Rattle.terms.proofs.Laws.{folded-folded, isTerm-folded}
 use Rattle.frames.specs.Refusals.{_if_}
-use Rattle.frames.specs.Frames.{firstTerm, termAt, terms, foldedAt, passesEnd, wrongVersion, wrongLength, wrongKind, wrongTerms, badTerm, headRows, queryRows, queryRefusal, queryStart, queryTerms}
-use Rattle.frames.proofs.Refusals.{Numbered, none, one, first-empty, first-passes, first-some, first-none}
-use Rattle.frames.proofs.Laws.{SoundQuery, sound-query}
+use Rattle.frames.specs.Frames.{firstTerm, termAt, terms, foldedAt, passesEnd, wrongTerms, badTerm, queryRows, queryRefusal, queryStart, queryTerms}
+use Rattle.frames.proofs.Refusals.{first-empty, first-passes, first-some, first-none}
+use Rattle.frames.proofs.Laws.{SoundQuery, sound-query, query-numbered}
 use Rattle.chains.specs.Chains.{whole, isWhole}
 use Rattle.counters.specs.Counters.{Memory, wrongCounters}
 use Rattle.query.specs.Listing.{readTerm, postingsIn, damagedTerms, listRows, listRefusal, common, matches, listOneCall, listAllCall}
@@ -30,15 +30,6 @@ pub record Reads (m : Memory) (rs : List Report) : Type 0 where
   pub right : wrongCounters (m .arena) (m .table) (m .counters) ≡ false
   pub reads : (w : List ℕ) → isTerm w ≡ true → folded w ≡ w → readTerm m w ≡ whole (postingsOf rs w)
   pub distinct : Distinct rs
-
--- every row of a query has a number above 0
-query-numbered : (k most : ℕ) (f : List ℕ) → Numbered (queryRows k most f)
-unfolding queryRows headRows
-query-numbered k most f =
-    one {r = 1 if wrongVersion f} (omega arith)
-    (one {r = 2 if wrongLength f} (omega arith)
-    (one {r = 3 if wrongKind k f} (omega arith)
-    (one {r = 4 if wrongTerms most f} (omega arith) (one {r = 5 if badTerm f (terms f)} (omega arith) none))))
 
 -- a sound query names at least one term
 some-term : (most : ℕ) (f : List ℕ) → wrongTerms most f ≡ false → length (terms f) ≡ 0 → ⊥

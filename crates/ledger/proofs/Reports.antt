@@ -11,7 +11,7 @@ use borrow.Author.Tests.{lt-ltb, le-ltb, ltb-false, eq-eqb, ne-eqb, eqb-false}
 use Rattle.basics.proofs.Cases.{by-lt, by-eq}
 use Rattle.frames.specs.Refusals.{_if_, firstOf}
 use Rattle.frames.specs.Frames.{reportRows, reportRefusal, reportLines}
-use Rattle.frames.proofs.Laws.{report-numbered}
+use Rattle.frames.proofs.Reports.{report-numbered}
 use Rattle.frames.proofs.Refusals.{first-some, first-none, first-zero, both-zero}
 use Rattle.blocks.specs.Fields.{maxWord, blocksIn, capacity}
 use Rattle.chains.specs.Chains.{lastFrom}

@@ -4,9 +4,9 @@ use mathlib.Core.List.{List, [], _∷_, _++_, map}
 use mathlib.Core.Bool.{Bool, cond, _&&_}
 use lib.Dec.{ltb, leb, eqb}
 use lib.ListN.{length}
-use Rattle.basics.specs.Lists.{all, any, same, keep}
+use Rattle.basics.specs.Lists.{all, any, same}
 use Rattle.frames.specs.Refusals.{Row, _if_, firstOf}
-use Rattle.frames.specs.Frames.{Line, reportRows, reportLines, queryRows, queryStart, queryTerms}
+use Rattle.frames.specs.Frames.{Line, reportRows, reportLines}
 use Rattle.blocks.specs.Fields.{maxWord, blocksIn}
 use Rattle.blocks.specs.Prescribed.{Posting, prescribed}
 use Rattle.lookup.specs.Lookup.{slotsIn}

@@ -28,7 +28,7 @@ use denote.Builtin.{u32, u8}
 use denote.Ref.{RefT, ShrRef, shr-tells, ptr-vals}
 use denote.Slice.{sliceVal, MutSlice, ShrSlice, Room, finally, slice-vals, mut-slice-tells, shr-slice-tells}
 use denote.Signature.{Slot, plain, shrRefTo, shrSliceOf}
-use denote.Steps.{only, looks, shuts, owned, peeks, heard, nothing}
+use denote.Steps.{looks, shuts, owned, peeks, heard, nothing}
 use denote.Struct.Steps.{spelt}
 use denote.Struct.Laws as LL
 use denote.Enum.Laws as EL
