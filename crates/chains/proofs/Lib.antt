@@ -1,3 +1,4 @@
 pub mod Steps
+pub mod Places
 pub mod Laws
 pub mod Counting

@@ -8,7 +8,7 @@ use Rattle.postings.specs.Coding.{decoded}
 use Rattle.postings.specs.declared.Decoded.{Decoded}
 use Rattle.postings.specs.declared.Decoded.the-variants as code
 use Rattle.blocks.specs.declared.Head.{Head}
-use Rattle.blocks.specs.Fields.{blockSize, headFixed, linkSize, place, linkOf, headOf, partStart, partOf}
+use Rattle.blocks.specs.Fields.{blockSize, headFixed, linkSize, capacity, place, linkOf, headOf, partStart, partOf}
 use Rattle.blocks.specs.Prescribed.{Posting}
 use Rattle.chains.specs.declared.Cursor.{Cursor}
 use Rattle.chains.specs.declared.Step.{Step}
@@ -71,6 +71,14 @@ stepAt a used reports c =
     cond (exhausted a c)
     (cond (eqb (c .first) 0) step.Damaged (cond (eqb (c .block) (c .tail)) step.End (nextBlock a used reports c)))
     (readAt a reports c (c .number))
+
+-- a place in a used block of the arena, with a write offset that lies in a block
+unfoldable pub isPlace : List ℕ → ℕ → Cursor → Bool
+isPlace a used c = leb used (capacity a) && (ltb (c .block) used && (leb linkSize (c .end) && leb (c .end) blockSize))
+
+-- a step from any place; damage where it is none
+unfoldable pub stepFrom : List ℕ → ℕ → ℕ → Cursor → Step
+stepFrom a used reports c = cond (isPlace a used c) (stepAt a used reports c) step.Damaged
 
 -- ---- a whole chain
 

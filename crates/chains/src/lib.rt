@@ -4,7 +4,7 @@ ghost use mathlib.Core.Bool.{false};
 ghost use Prim.Native.Nat.{_+_, _≤_, _<_};
 ghost use lib.ListN.{length};
 ghost use Rattle.blocks.specs.Fields.{place, headOf};
-ghost use Rattle.chains.specs.Chains.{partEnd, exhausted, readAt, nextBlock, stepAt, atHead, badHead, chainOf, isWhole, Follows};
+ghost use Rattle.chains.specs.Chains.{partEnd, exhausted, readAt, nextBlock, stepAt, stepFrom, atHead, badHead, chainOf, isWhole, Follows};
 use blocks::Head;
 use postings::Decoded;
 
@@ -136,6 +136,55 @@ pub fn advance(arena: &[u8], used: u32, reports: u32, c: Cursor) -> Step
         return next_block(arena, used, reports, c);
     }
     read_at(arena, reports, c, c.number)
+}
+
+// ---- a reader that holds the arena and a place
+
+// The used blocks of an arena, the reports there are, and the place of the next posting.
+pub struct ChainReader<'a> {
+    pub arena: &'a [u8],
+    pub used: u32,
+    pub reports: u32,
+    pub place: Cursor,
+}
+
+// A step from any place: damage where it lies in no used block, or its write offset in no block.
+pub fn step_from(arena: &[u8], used: u32, reports: u32, place: Cursor) -> Step
+    ensures { λ r. ⌜ r ≡ stepFrom (now (arena .entry)) used reports place ⌝ }
+{
+    if blocks::capacity_of(arena) < used {
+        return Step::Damaged;
+    }
+    if used <= place.block {
+        return Step::Damaged;
+    }
+    if place.end < 4 {
+        return Step::Damaged;
+    }
+    if 64 < place.end {
+        return Step::Damaged;
+    }
+    advance(arena, used, reports, place)
+}
+
+// The posting at the reader's place, with the place behind it.
+pub fn next<'a>(r: ChainReader<'a>) -> Step
+    ensures { λ s. ⌜ s ≡ stepFrom (now (r .entry .arena)) (r .entry .used) (r .entry .reports) (r .entry .place) ⌝ }
+{
+    step_from(r.arena, r.used, r.reports, r.place)
+}
+
+// The same for a caller that has no reader.
+pub fn read_next(arena: &[u8], used: u32, reports: u32, place: Cursor) -> Step
+    ensures { λ r. ⌜ r ≡ stepFrom (now (arena .entry)) used reports place ⌝ }
+{
+    let r = ChainReader {
+        arena,
+        used,
+        reports,
+        place,
+    };
+    next(r)
 }
 
 // ---- a whole chain
