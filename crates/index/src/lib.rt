@@ -12,8 +12,8 @@ use counters::Counters;
 use ingest::ReportAnswer;
 use query::ListAnswer;
 
-// Writes nulls into the whole table.
-fn clear_table(table: &mut [u32])
+// Writes nulls into the whole table: what a start does but for the counters.
+pub fn clear_table(table: &mut [u32])
     ensures { λ _. ⌜ now (table .exit) ≡ replicate (length (now (table .entry))) 0 ⌝ }
 {
     let mut i = 0;

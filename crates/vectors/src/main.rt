@@ -1,19 +1,23 @@
-// Answers the questions on standard input, a line each: codings, decodings, foldings and hashes by the proved functions. The stored questions and
-// the expected answers are written by the Rust reference (rust/reference), which shares no code with the functions under test.
+// Answers the questions on standard input, a line each, by the proved functions: hashes, codings, decodings, foldings, frames, chains and whole lists
+// of calls. The stored questions and the expected answers are written by the Rust reference (rust/reference), which shares no code with the functions under test.
 ghost use mathlib.Core.Path.{_≡_};
 ghost use mathlib.Core.Bool.{false};
-ghost use Prim.Native.Nat.{_<_, _≤_};
+ghost use Prim.Native.Nat.{_+_, _<_, _≤_};
 ghost use lib.ListN.{length};
 ghost use Rattle.terms.specs.Terms.{maxTerm};
 ghost use Rattle.frames.specs.Frames.{countBytes, fields, passesEnd, badTerm};
+use chains::Step;
+use counters::Counters;
 use frames::Cursor;
 use frames::Query;
 use frames::Report;
+use ingest::ReportAnswer;
 use io::print_decimal;
 use io::print_hex;
 use libc::STDIN_FILENO;
 use libc::STDOUT_FILENO;
 use postings::Decoded;
+use query::ListAnswer;
 
 fn print(text: &[u8]) {
     io::write_all(STDOUT_FILENO, text);
@@ -23,6 +27,16 @@ fn print(text: &[u8]) {
 fn print_number(n: u64) {
     print(b" ");
     print_decimal(STDOUT_FILENO, n);
+}
+
+fn print_word(n: u32) {
+    print_number(n as u64);
+}
+
+// A colon and a count.
+fn print_count(n: u32) {
+    print(b":");
+    print_decimal(STDOUT_FILENO, n as u64);
 }
 
 // A space and the bytes in hexadecimal, `-` for none.
@@ -38,10 +52,14 @@ fn print_bytes(s: &[u8]) {
     }
 }
 
-// A space and a hash in eight hexadecimal digits.
+// Eight hexadecimal digits.
+fn print_entry(n: u32) {
+    print_hex(STDOUT_FILENO, n as u64, 8);
+}
+
 fn print_hash(hash: u32) {
     print(b" ");
-    print_hex(STDOUT_FILENO, hash as u64, 8);
+    print_entry(hash);
 }
 
 // Sort 1: the hash of the bytes as they stand.
@@ -64,8 +82,8 @@ fn code(payload: &[u8]) {
     let mut bytes = [0u8; 10];
     let end = postings::put_posting(&mut bytes, 0, gap, count);
     print(b"code");
-    print_number(gap as u64);
-    print_number(count as u64);
+    print_word(gap);
+    print_word(count);
     print_bytes(&bytes[..end]);
 }
 
@@ -76,8 +94,8 @@ fn decode(payload: &[u8]) {
     match postings::decode(payload) {
         Decoded::Rejected => print(b" refused"),
         Decoded::Posting { gap, count, length } => {
-            print_number(gap as u64);
-            print_number(count as u64);
+            print_word(gap);
+            print_word(count);
             print_number(length as u64);
         }
     }
@@ -113,8 +131,7 @@ fn print_fields(frame: &[u8], from: usize, tail: usize)
     while c.at < frame.len() {
         print_folded(c.term(frame));
         if tail == 4 {
-            print(b":");
-            print_decimal(STDOUT_FILENO, c.count(frame) as u64);
+            print_count(c.count(frame));
         }
         c = c.past(frame, tail);
     }
@@ -140,7 +157,7 @@ fn print_query(frame: &[u8], start: u32, first: Cursor)
     requires { ⌜ (passesEnd 0 (now frame) (first .at) ≡ false) × (badTerm (now frame) (fields 0 (now frame) (first .at)) ≡ false) ⌝ }
 {
     print(b" start");
-    print_number(start as u64);
+    print_word(start);
     print(b" terms");
     print_fields(frame, first.at, 0);
 }
@@ -225,16 +242,33 @@ fn put_postings(arena: &mut [u8], payload: &[u8], from: usize) -> u32
     used
 }
 
-// The postings as numbers and counts.
-fn print_postings(payload: &[u8], from: usize)
-    requires { ⌜ from ≤ length (now payload) ⌝ }
+// The postings of the chain whose head is block 0, as a chain reader gives them.
+fn print_chain(arena: &[u8], used: u32)
+    requires { ⌜ (64 ≤ length (now arena)) × (0 < used) ⌝ }
 {
-    let mut at = from;
-    while at + 8 <= payload.len() {
-        print_number(basics::read_word(payload, at) as u64);
-        print(b":");
-        print_decimal(STDOUT_FILENO, basics::read_word(payload, at + 4) as u64);
-        at += 8;
+    let d = blocks::head_of(arena, 0);
+    let reports = d.last;
+    let mut place = chains::at_head(d, used, 0);
+    while place.number < reports {
+        match chains::read_next(arena, used, reports, place) {
+            Step::Posting {
+                number,
+                count,
+                next,
+            } => {
+                print_word(number);
+                print_count(count);
+                place = next;
+            }
+            Step::End => {
+                print(b" end");
+                return;
+            }
+            Step::Damaged => {
+                print(b" damaged");
+                return;
+            }
+        }
     }
 }
 
@@ -266,11 +300,212 @@ fn chain(payload: &[u8]) {
     let used = put_postings(&mut arena, payload, from + 8);
     print(b"blocks");
     print_bytes(term);
-    print_postings(payload, from);
+    if 0 < used {
+        print_chain(&arena, used);
+    }
     if used <= 24 {
         let end = blocks::place_of(used);
         print_bytes(&arena[..end]);
     }
+}
+
+// ---- lists of calls
+
+// Two bytes as a number.
+fn read_pair(s: &[u8], at: usize) -> usize
+    requires { ⌜ at + 2 ≤ length (now s) ⌝ }
+    ensures { λ r. ⌜ r < 65536 ⌝ }
+{
+    basics::wide(s[at]) * 256 + basics::wide(s[at + 1])
+}
+
+fn print_refused(refusal: u8) {
+    print(b" E");
+    print_number(refusal as u64);
+}
+
+fn print_taken(answer: ReportAnswer) {
+    if answer.refusal != 0 {
+        print_refused(answer.refusal);
+        return;
+    }
+    print(b" R");
+    print_word(answer.number);
+}
+
+// So many numbers, with their counts where they are asked for.
+fn print_places(numbers: &[u32], counts: &[u32], filled: usize, counted: bool)
+    requires { ⌜ (filled ≤ length (now numbers)) × (filled ≤ length (now counts)) ⌝ }
+{
+    let mut i: usize = 0;
+    while i < filled {
+        print_word(numbers[i]);
+        if counted {
+            print_count(counts[i]);
+        }
+        i += 1;
+    }
+}
+
+fn print_listed(answer: ListAnswer, numbers: &[u32], counts: &[u32], counted: bool) {
+    if answer.refusal != 0 {
+        print_refused(answer.refusal);
+        return;
+    }
+    print(b" Q");
+    print_word(answer.filled);
+    if answer.more {
+        print(b" +");
+    } else {
+        print(b" -");
+    }
+    let filled = answer.filled as usize;
+    if numbers.len() < filled {
+        return;
+    }
+    if counts.len() < filled {
+        return;
+    }
+    print_places(numbers, counts, filled, counted);
+}
+
+fn list_one(
+    arena: &[u8],
+    table: &[u32],
+    k: Counters,
+    frame: &[u8],
+    numbers: &mut [u32],
+    counts: &mut [u32],
+) {
+    let answer = query::list_one(arena, table, k, frame, numbers, counts);
+    print_listed(answer, numbers, counts, true);
+}
+
+fn list_all(arena: &[u8], table: &[u32], k: Counters, frame: &[u8], numbers: &mut [u32]) {
+    let answer = query::list_all(arena, table, k, frame, numbers);
+    print_listed(answer, numbers, numbers, false);
+}
+
+// The call of a kind; another kind is left out.
+fn call(
+    arena: &mut [u8],
+    table: &mut [u32],
+    k: Counters,
+    kind: u8,
+    frame: &[u8],
+    places: usize,
+) -> Counters
+    requires { ⌜ places ≤ 256 ⌝ }
+{
+    let mut numbers = [0u32; 256];
+    let mut counts = [0u32; 256];
+    match kind {
+        1 => {
+            let taken = ingest::take_report(arena, table, k, frame);
+            print_taken(taken.answer);
+            taken.counters
+        }
+        2 => {
+            list_one(
+                arena,
+                table,
+                k,
+                frame,
+                &mut numbers[..places],
+                &mut counts[..places],
+            );
+            k
+        }
+        3 => {
+            list_all(arena, table, k, frame, &mut numbers[..places]);
+            k
+        }
+        _ => k,
+    }
+}
+
+// The calls from place 5 on: a null byte for a start, else the kind, two bytes of length and the frame.
+fn run_calls(arena: &mut [u8], table: &mut [u32], payload: &[u8], places: usize) -> Counters
+    requires { ⌜ places ≤ 256 ⌝ }
+{
+    let mut k = Counters {
+        used: 0,
+        terms: 0,
+        reports: 0,
+    };
+    let mut at: usize = 5;
+    while at < payload.len() {
+        let kind = payload[at];
+        if kind == 0 {
+            index::clear_table(table);
+            k = Counters {
+                used: 0,
+                terms: 0,
+                reports: 0,
+            };
+            print(b" S");
+            at += 1;
+        } else {
+            let from = at + 3;
+            if payload.len() < from {
+                return k;
+            }
+            let to = from + read_pair(payload, at + 1);
+            if payload.len() < to {
+                return k;
+            }
+            k = call(arena, table, k, kind, &payload[from..to], places);
+            at = to;
+        }
+    }
+    k
+}
+
+// The table's entries in hexadecimal, `-` for none.
+fn print_table(table: &[u32]) {
+    print(b" ");
+    if table.len() == 0 {
+        print(b"-");
+    }
+    let mut i: usize = 0;
+    while i < table.len() {
+        print_entry(table[i]);
+        i += 1;
+    }
+}
+
+fn calls_on(arena: &mut [u8], table: &mut [u32], payload: &[u8], places: usize)
+    requires { ⌜ places ≤ 256 ⌝ }
+{
+    let k = run_calls(arena, table, payload, places);
+    print(b" |");
+    print_word(k.used);
+    print_word(k.terms);
+    print_word(k.reports);
+    print_table(table);
+    print_bytes(arena);
+}
+
+// Sort 7: a list of calls on null memory of the given sizes, and the counters, table and arena that it leaves.
+fn calls(payload: &[u8]) {
+    if payload.len() < 5 {
+        return;
+    }
+    let blocks = read_pair(payload, 0);
+    let entries = read_pair(payload, 2);
+    let places = basics::wide(payload[4]);
+    if 24 < blocks {
+        return;
+    }
+    if 64 < entries {
+        return;
+    }
+    print(b"calls");
+    print_bytes(payload);
+    let mut arena = [0u8; 1536];
+    let mut table = [0u32; 64];
+    let bytes = blocks * 64;
+    calls_on(&mut arena[..bytes], &mut table[..entries], payload, places);
 }
 
 fn answer(sort: u8, payload: &[u8]) {
@@ -281,6 +516,7 @@ fn answer(sort: u8, payload: &[u8]) {
         4 => fold(payload),
         5 => frame(payload),
         6 => chain(payload),
+        7 => calls(payload),
         _ => print(b"unknown"),
     }
     print(b"\n");

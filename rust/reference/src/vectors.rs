@@ -45,6 +45,7 @@ pub const SORTS: &[Sort] = &[
     Sort::new(4, term_questions, term_answer),
     Sort::new(5, frame_questions, frame_answer),
     Sort::new(6, block_questions, block_answer),
+    Sort::new(7, call_questions, call_answer),
 ];
 
 /// The content of the file of questions.

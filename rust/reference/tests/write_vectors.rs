@@ -48,12 +48,9 @@ fn names(folder: &Path) -> Vec<String> {
     names
 }
 
-#[test]
-fn both_files_are_written_and_named() {
-    let folder = empty_folder("written");
-    let output = run(&[&folder]);
-    assert_eq!(output.status.code(), Some(0));
-    assert_eq!(names(&folder), ["stdin", "stdout"]);
+/// Fails unless the folder has both files, with today's questions and answers, and nothing else.
+fn assert_written(folder: &Path) {
+    assert_eq!(names(folder), ["stdin", "stdout"]);
     assert_eq!(
         fs::read(folder.join("stdin")).expect("stdin"),
         vectors::all_questions()
@@ -62,6 +59,14 @@ fn both_files_are_written_and_named() {
         fs::read(folder.join("stdout")).expect("stdout"),
         vectors::all_answers()
     );
+}
+
+#[test]
+fn both_files_are_written_and_named() {
+    let folder = empty_folder("written");
+    let output = run(&[&folder]);
+    assert_eq!(output.status.code(), Some(0));
+    assert_written(&folder);
     let text = String::from_utf8_lossy(&output.stdout);
     assert_eq!(text.lines().count(), 2, "text: {text}");
 }
@@ -72,15 +77,7 @@ fn files_that_are_there_are_replaced() {
     fs::write(folder.join("stdin"), b"old").expect("a file can be written");
     fs::write(folder.join("stdout"), b"old").expect("a file can be written");
     assert_eq!(run(&[&folder]).status.code(), Some(0));
-    assert_eq!(names(&folder), ["stdin", "stdout"]);
-    assert_eq!(
-        fs::read(folder.join("stdin")).expect("stdin"),
-        vectors::all_questions()
-    );
-    assert_eq!(
-        fs::read(folder.join("stdout")).expect("stdout"),
-        vectors::all_answers()
-    );
+    assert_written(&folder);
 }
 
 #[test]

@@ -92,8 +92,11 @@ print-requires c κs = search needs
 print-bytes-requires : tie.Need-print-bytes-requires
 print-bytes-requires c κs = search needs
 
-print-postings-requires : tie.Need-print-postings-requires
-print-postings-requires c κs = search needs
+slice-aggregate-print-chain : tie.Need-slice-aggregate-print-chain
+slice-aggregate-print-chain c = search needs
+
+print-chain-requires : tie.Need-print-chain-requires
+print-chain-requires c κs = search needs
 
 place-of-requires : tie.Need-place-of-requires
 place-of-requires c κs = search needs
@@ -145,7 +148,8 @@ chain-spec =
     slice-aggregate-print
     print-requires
     print-bytes-requires
-    print-postings-requires
+    slice-aggregate-print-chain
+    print-chain-requires
     place-of-requires
     array-share-prefix-arena
     slice-aggregate-print-bytes

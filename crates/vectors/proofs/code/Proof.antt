@@ -41,17 +41,11 @@ slice-aggregate-print c = search needs
 print-requires : tie.Need-print-requires
 print-requires c κs = search needs
 
-cast-print-number : tie.Need-cast-print-number
-cast-print-number c = search needs
+print-word-requires : tie.Need-print-word-requires
+print-word-requires c κs = search needs
 
-print-number-requires : tie.Need-print-number-requires
-print-number-requires c κs = search needs
-
-cast-print-number-2 : tie.Need-cast-print-number-2
-cast-print-number-2 c = search needs
-
-print-number-requires-2 : tie.Need-print-number-requires-2
-print-number-requires-2 c κs = search needs
+print-word-requires-2 : tie.Need-print-word-requires-2
+print-word-requires-2 c κs = search needs
 
 within : (c : tie.After-put-posting) → c .put-posting .result ≤ length (c .put-posting .last .0)
 within c = omega (arith, c .put-posting .ensures .0, c .put-posting .kept .0, ten (c .before))
@@ -82,10 +76,8 @@ code-spec =
     put-posting-requires
     slice-aggregate-print
     print-requires
-    cast-print-number
-    print-number-requires
-    cast-print-number-2
-    print-number-requires-2
+    print-word-requires
+    print-word-requires-2
     array-share-prefix-bytes
     slice-aggregate-print-bytes
     print-bytes-requires

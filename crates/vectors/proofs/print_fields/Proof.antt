@@ -16,10 +16,10 @@ use Rattle.terms.proofs.Laws.{term-length}
 use Rattle.frames.proofs.Conditions.{good-here, good-on}
 
 abbrev Inv-loop : tie.InvT-loop
-Inv-loop frame from tail c₀ t5 c = (passesEnd tail frame (c .at) ≡ false) × (badTerm frame (fields tail frame (c .at)) ≡ false)
+Inv-loop frame from tail c₀ c = (passesEnd tail frame (c .at) ≡ false) × (badTerm frame (fields tail frame (c .at)) ≡ false)
 
 abbrev μ-loop : tie.MeasureT-loop
-μ-loop frame from tail c₀ t5 c = length frame - c .at
+μ-loop frame from tail c₀ c = length frame - c .at
 
 loop-holds : tie.Need-loop-holds Inv-loop μ-loop
 loop-holds c = (c .before .pre .1, c .before .pre .2)
@@ -38,28 +38,19 @@ print-folded-requires c κs =
     let f = now (s .frame) in
     rw (c .term .ensures) (term-length _ (good-here (s .tail) f (l .loop .c .at) (c .before .if1 .taken) (l .loop .inv .1)) .1)
 
-slice-aggregate-print : tie.Need-slice-aggregate-print Inv-loop μ-loop
-slice-aggregate-print c = search needs
-
-print-requires : tie.Need-print-requires Inv-loop μ-loop
-print-requires c κs = search needs
-
 ap-field : {tail : ℕ} {f : List ℕ} {at : ℕ} → tail ≡ 4 → Field tail f at → Field 4 f at
 ap-field {tail} {f} {at} e h = rw e at h
 
 count-requires : tie.Need-count-requires Inv-loop μ-loop
 count-requires c κs =
-    let l = c .before .before .before .before .before .before .before in
+    let l = c .before .before .before .before .before in
     let s = l .before .before .args in
     let f = now (s .frame) in
-    let e : s .tail ≡ 4 = c .before .before .if2 .taken in
-    ap-field e (field-here (s .tail) f (l .loop .c .at) (l .loop .inv .0) (c .before .before .before .before .before .if1 .taken))
+    let e : s .tail ≡ 4 = c .if2 .taken in
+    ap-field e (field-here (s .tail) f (l .loop .c .at) (l .loop .inv .0) (c .before .before .before .if1 .taken))
 
-cast-print-decimal : tie.Need-cast-print-decimal Inv-loop μ-loop
-cast-print-decimal c = search needs
-
-print-decimal-requires : tie.Need-print-decimal-requires Inv-loop μ-loop
-print-decimal-requires c κs = search needs
+print-count-requires : tie.Need-print-count-requires Inv-loop μ-loop
+print-count-requires c κs = search needs
 
 past-requires : tie.Need-past-requires Inv-loop μ-loop
 past-requires c κs =
@@ -95,11 +86,8 @@ print-fields-spec =
     loop-holds
     term-requires
     print-folded-requires
-    slice-aggregate-print
-    print-requires
     count-requires
-    cast-print-decimal
-    print-decimal-requires
+    print-count-requires
     past-requires
     loop-less
     loop-again
