@@ -20,11 +20,11 @@ use Rattle.ledger.proofs.ListingStep.{Reads, one-agrees, all-agrees}
 use Rattle.ledger.proofs.Calls.{Carries, claim}
 
 -- a memory of these lengths that stands for the reports
-record Carried (b e : ℕ) (m : Memory) (rs : List Report) : Type 0 where
-  stands : StandsFor m rs
-  distinct : Distinct rs
-  arena-is : length (m .arena) ≡ b
-  table-is : length (m .table) ≡ e
+pub record Carried (b e : ℕ) (m : Memory) (rs : List Report) : Type 0 where
+  pub stands : StandsFor m rs
+  pub distinct : Distinct rs
+  pub arena-is : length (m .arena) ≡ b
+  pub table-is : length (m .table) ≡ e
 
 -- a folded term is looked up and read as the ledger has it
 reads-as : {m : Memory} {rs : List Report} (w : List ℕ) → Looks m rs (termOf w) w → readTerm m w ≡ whole (postingsOf rs w)
@@ -43,7 +43,7 @@ reads-of {m} {rs} c =
 steps-of : {b e : ℕ} {m : Memory} {rs : List Report} (f : List ℕ) → Bytes f → Carried b e m rs → Steps m (reportCall m f) (enterReport b e rs f)
 steps-of f bytes c = rw (c .arena-is, c .table-is) at (report-step (c .stands) f bytes)
 
-carries : Carries Carried
+pub carries : Carries Carried
 unfolding cleared
 carries =
     record {
@@ -60,4 +60,4 @@ carries =
     }
 
 pub agree : Claim
-agree = claim Carried carries
+agree m rs cs h = claim Carried carries m rs cs h

@@ -32,8 +32,8 @@ use Rattle.ledger.specs.Calls.{
   none,
   one,
   Counted,
+  ledgerFor,
   Agree,
-  Claim,
 }
 
 -- R relates a memory to a ledger's reports, for an arena of so many bytes and a table of so many entries
@@ -81,14 +81,22 @@ module _ {R : ℕ → ℕ → Memory → List Report → Type 0} (c : Carries R)
   at-end m rs (one {c = k} {cs = cs} h hs) r =
       at-end (indexStep m k .left) (ledgerStep b e rs k .left) hs (step-left m rs k h r)
 
--- the claim
-pub claim : (R : ℕ → ℕ → Memory → List Report → Type 0) → Carries R → Claim
-unfolding answers final indexStep ledgerStep
-claim R c m rs cs h =
-    let b = length (m .arena) in
-    let e = length (m .table) in
-    let r : R b e (cleared m) [] = c .starts b e m refl refl in
-    record {
-      same-answers = ap (λ (l : List Answer). started ∷ l) (all-answers c b e (cleared m) [] h r);
-      right-counters = c .counted b e (final indexStep (cleared m) cs) (final (ledgerStep b e) [] cs) (at-end c b e (cleared m) [] h r);
-    }
+module _ (R : ℕ → ℕ → Memory → List Report → Type 0) (c : Carries R) (m : Memory) (rs : List Report) (cs : List Call) (h : Framed cs) where
+  abbrev b : ℕ
+  b = length (m .arena)
+
+  abbrev e : ℕ
+  e = length (m .table)
+
+  -- after a start and the calls
+  pub carried : R b e (final indexStep m (start ∷ cs)) (final (ledgerFor m) rs (start ∷ cs))
+  unfolding final indexStep ledgerStep
+  carried = at-end c b e (cleared m) [] h (c .starts b e m refl refl)
+
+  -- the claim
+  pub claim : Agree m rs cs
+  unfolding answers indexStep ledgerStep
+  claim = record {
+    same-answers = ap (λ (l : List Answer). started ∷ l) (all-answers c b e (cleared m) [] h (c .starts b e m refl refl));
+    right-counters = c .counted b e (final indexStep m (start ∷ cs)) (final (ledgerFor m) rs (start ∷ cs)) carried;
+  }

@@ -12,3 +12,4 @@ pub mod ListingDistinct
 pub mod ListingStep
 pub mod Calls
 pub mod Agree
+pub mod Room
