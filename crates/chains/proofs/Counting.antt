@@ -15,6 +15,8 @@ use Rattle.blocks.specs.Fields.{linkSize, place, headOf}
 use Rattle.chains.specs.declared.Cursor.{Cursor}
 use Rattle.chains.specs.declared.Step.the-variants as step
 use Rattle.chains.specs.Chains.{Reading, damaged, whole, onto, stepAt, atHead, badHead, lastFrom, agreeing, chainOf, isWhole, Follows}
+use Rattle.chains.specs.Parts.{Within, here, on}
+use Rattle.chains.proofs.Steps.{step-here}
 use Rattle.chains.proofs.Laws.{step-follows, rest, rest-posting, rest-end, rest-damaged, head-follows, head-rest, chain-good}
 
 -- whether the rest agrees with the head
@@ -83,3 +85,11 @@ module _ {a : List ℕ} {used reports h : ℕ} {d : Head} {c : Cursor} {n : ℕ}
   pub broken : stepAt a used reports c ≡ step.Damaged → isWhole (chainOf a used reports h) ≡ false
   unfolding finish
   broken e = w .is ∙ ap (finish d n (c .number)) (rest-damaged a used reports c e)
+
+-- several postings within a part
+pub passed : {a : List ℕ} {used reports h : ℕ} {d : Head} {c c′ : Cursor} {n to k : ℕ} → Counted a used reports h d c n → Within a reports to c k c′
+    → Counted a used reports h d c′ (n + k)
+passed w here = rw add-zero w
+passed {a} {used} {reports} {n = n} w (on {k = k} v b e r) =
+    let s : n + suc k ≡ n + k + 1 = omega arith in
+    rw s (more (passed w v) (step-here a used reports _ e ∙ r))

@@ -1,4 +1,5 @@
 pub mod Steps
 pub mod Places
+pub mod Parts
 pub mod Laws
 pub mod Counting

@@ -5,6 +5,7 @@ ghost use Prim.Native.Nat.{_+_, _≤_, _<_};
 ghost use lib.ListN.{length};
 ghost use Rattle.blocks.specs.Fields.{place, headOf};
 ghost use Rattle.chains.specs.Chains.{partEnd, exhausted, readAt, nextBlock, stepAt, stepFrom, atHead, badHead, chainOf, isWhole, Follows};
+ghost use Rattle.chains.specs.Parts.{movedTo, InPart, Within};
 use blocks::Head;
 use postings::Decoded;
 
@@ -138,6 +139,60 @@ pub fn advance(arena: &[u8], used: u32, reports: u32, c: Cursor) -> Step
     read_at(arena, reports, c, c.number)
 }
 
+// ---- several steps within a block's part
+
+// How many postings were passed, and the place behind them.
+pub struct Passed {
+    pub postings: u32,
+    pub place: Cursor,
+}
+
+// The cursor's place with another offset in the same block.
+fn moved(c: Cursor, at: usize, number: u32) -> Cursor
+    ensures { λ r. ⌜ r ≡ movedTo c at number ⌝ }
+{
+    Cursor {
+        tail: c.tail,
+        end: c.end,
+        block: c.block,
+        at,
+        number,
+        first: c.first,
+        left: c.left,
+    }
+}
+
+// Goes on from a block's first posting while numbers are below `to`: to the end of the part, or to where no sound posting stands. The bytes of
+// a part are decoded in one loop, without a cursor for each posting.
+pub fn pass_part(arena: &[u8], reports: u32, c: Cursor, to: u32) -> Passed
+    requires { ⌜ InPart (now arena) reports c ⌝ }
+    ensures { λ r. ⌜ Within (now (arena .entry)) reports to c (r .postings) (r .place) ⌝ }
+{
+    let start = blocks::place_of(c.block);
+    let end = start + part_end(c);
+    let part = &arena[start..end];
+    let mut at = c.at;
+    let mut number = c.number;
+    let mut postings: u32 = 0;
+    while at < part.len() && number < to {
+        let g = postings::gap_of(&part[at..]);
+        let gap = g.gap;
+        if gap == 0 || reports - number < gap {
+            return Passed {
+                postings,
+                place: moved(c, at, number),
+            };
+        }
+        number += gap;
+        at += g.length;
+        postings += 1;
+    }
+    Passed {
+        postings,
+        place: moved(c, at, number),
+    }
+}
+
 // ---- a reader that holds the arena and a place
 
 // The used blocks of an arena, the reports there are, and the place of the next posting.
@@ -219,7 +274,7 @@ pub fn at_head(d: Head, used: u32, h: u32) -> Cursor
     }
 }
 
-// Reads the chain of head h whole: whether it is sound.
+// Reads the chain of head h whole: whether it is sound. Each turn takes the first posting of a block, then those behind it.
 pub fn is_sound(arena: &[u8], used: u32, reports: u32, h: u32) -> bool
     requires { ⌜ (place used ≤ length (now arena)) × (h < used) ⌝ }
     ensures { λ r. ⌜ r ≡ isWhole (chainOf (now (arena .entry)) used reports h) ⌝ }
@@ -243,8 +298,9 @@ pub fn is_sound(arena: &[u8], used: u32, reports: u32, h: u32) -> bool
                 count: _,
                 next,
             } => {
-                c = next;
-                n += 1;
+                let p = pass_part(arena, reports, next, reports);
+                c = p.place;
+                n += 1 + p.postings;
             }
         }
     }

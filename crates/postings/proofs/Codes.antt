@@ -9,9 +9,11 @@ use lib.ListN.{length, take, drop, getD, length-append}
 use lib.Seq.{drop-append-seam, take-append-seam, drop-drop}
 use borrow.Author.Tests.{lt-ltb, le-ltb, le-leb, lt-leb}
 use Rattle.postings.specs.declared.Value.the-variants.{Number, NoValue}
+use Rattle.postings.specs.declared.Decoded.{Decoded}
+use Rattle.postings.specs.declared.Gap.{Gap}
 use Rattle.postings.specs.declared.Decoded.the-variants.{Posting, Rejected}
-use Rattle.postings.specs.Coding.{threshold, maxGap, maxCount, maxFirst, maxSecond, vbyte, code, value, atMost, second, first, decoded}
-use Rattle.basics.proofs.Cases.{by-lt}
+use Rattle.postings.specs.Coding.{threshold, maxGap, maxCount, maxFirst, maxSecond, vbyte, code, value, atMost, second, first, decoded, shortGap, gapIn}
+use Rattle.basics.proofs.Cases.{by-lt, by-eq}
 use Rattle.postings.proofs.Values.{value-last, value-vbyte, Front, View, view}
 
 pub code-low : (g f : ℕ) → f < threshold → code g f ≡ vbyte ((g - 1) * threshold + f)
@@ -59,9 +61,48 @@ unfolding decoded
 decoded-high s v l e h = rw e (first-high s v l h)
 
 -- a posting of one byte
-pub decoded-one : (s : List ℕ) → 0 < length s → getD s 0 0 < 128 → 0 < getD s 0 0 % 4 → decoded s ≡ Posting (getD s 0 0 / 4 + 1) (getD s 0 0 % 4) 1
+decoded-one : (s : List ℕ) → 0 < length s → getD s 0 0 < 128 → 0 < getD s 0 0 % 4 → decoded s ≡ Posting (getD s 0 0 / 4 + 1) (getD s 0 0 % 4) 1
 decoded-one [] h k p = absurd (omega arith)
 decoded-one (b ∷ s) h k p = decoded-low (b ∷ s) b 1 (ap (atMost maxFirst) (value-last b s (omega arith) k) ∙ at-most maxFirst b 1 (omega arith)) p
+
+-- by the byte alone
+module _ (b : ℕ) where
+  pub short-high : 128 ≤ b → shortGap b ≡ 0
+  unfolding shortGap
+  short-high h = rw (le-ltb b 128 h)
+
+  pub short-whole : b % 4 ≡ 0 → shortGap b ≡ 0
+  unfolding shortGap
+  short-whole e = by-lt b 128 (λ h. rw (lt-ltb b 128 h, e)) short-high
+
+  pub short-low : b < 128 → 0 < b % 4 → shortGap b ≡ b / 4 + 1
+  unfolding shortGap
+  short-low h p = rw (lt-ltb b 128 h, lt-ltb 0 (b % 4) p)
+
+pub decoded-short : (s : List ℕ) → 0 < length s → 0 < shortGap (getD s 0 0) → decoded s ≡ Posting (shortGap (getD s 0 0)) (getD s 0 0 % 4) 1
+decoded-short s h p =
+    let b = getD s 0 0 in
+    by-lt b 128
+    (λ k.
+    by-eq (b % 4) 0 (λ z. absurd (omega (arith, short-whole b z)))
+    (λ z. let q : 0 < b % 4 = omega arith in decoded-one s h k q ∙ rw (short-low b k q)))
+    (λ k. absurd (omega (arith, short-high b k)))
+
+-- ---- what a reader of gaps finds
+
+pub gap-posting : (g f l : ℕ) → gapIn (Posting g f l) ≡ record { gap = g; length = l }
+unfolding gapIn
+gap-posting g f l = refl
+
+pub gap-none : gapIn Rejected ≡ record { gap = 0; length = 0 }
+unfolding gapIn
+gap-none = refl
+
+-- a gap above 0 is that of a posting
+pub gap-some : (x : Decoded) {r : Gap} → r ≡ gapIn x → 0 < r .gap → (f : ℕ) × (x ≡ Posting (r .gap) f (r .length))
+unfolding gapIn
+gap-some (Posting g f l) {r} e h = (f, sym (ap (λ (y : Gap). Posting (y .gap) f (y .length)) e))
+gap-some Rejected {r} e h = absurd (omega (arith, ap (λ (y : Gap). y .gap) e))
 
 pub second-number : (g l w m : ℕ) → second g l (Number w m) ≡ Posting g (w + 3) (l + m)
 unfolding second

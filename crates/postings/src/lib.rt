@@ -4,7 +4,7 @@ ghost use mathlib.Core.Path.{_≡_};
 ghost use Prim.Native.Nat.{_+_, _-_, _≤_, _<_, _^_};
 ghost use lib.ListN.{length};
 ghost use lib.Seq.{sets};
-ghost use Rattle.postings.specs.Coding.{vbyte, code, codeLength, value, atMost, decoded};
+ghost use Rattle.postings.specs.Coding.{vbyte, code, codeLength, value, atMost, decoded, shortGap, gapIn};
 ghost use Rattle.postings.specs.Claims.{RoundTrips};
 
 // The distance of a report from the last one in the chain.
@@ -41,6 +41,12 @@ pub enum Value {
 pub enum Decoded {
     Posting { gap: u32, count: u32, length: usize },
     Rejected,
+}
+
+// A gap and the bytes that its posting takes.
+pub struct Gap {
+    pub gap: u32,
+    pub length: usize,
 }
 
 // How many bytes code a value, by its length in bits.
@@ -209,24 +215,56 @@ fn decode_long(s: &[u8]) -> Decoded
     }
 }
 
-// The posting at the front of s. Most postings take one byte, so these are told by that byte alone.
+// The gap of a posting that one byte holds, as most do; 0 where the byte alone is no posting.
+fn short_gap(b: u8) -> u32
+    ensures { λ r. ⌜ r ≡ shortGap b ⌝ }
+{
+    if 128 <= b {
+        return 0;
+    }
+    if b % 4 == 0 {
+        return 0;
+    }
+    b as u32 / 4 + 1
+}
+
+// The posting at the front of s.
 pub fn decode(s: &[u8]) -> Decoded
     ensures { λ r. ⌜ r ≡ decoded (now (s .entry)) ⌝ }
 {
     if 0 < s.len() {
         let b = s[0] as u32;
-        let f = b % 4;
-        if b < 128 {
-            if 0 < f {
-                return Decoded::Posting {
-                    gap: b / 4 + 1,
-                    count: f,
-                    length: 1,
-                };
-            }
+        let gap = short_gap(s[0]);
+        if 0 < gap {
+            return Decoded::Posting {
+                gap,
+                count: b % 4,
+                length: 1,
+            };
         }
     }
     decode_long(s)
+}
+
+// The gap of the posting at the front of s and the bytes that the posting takes, for readers that do not ask for its count; a gap of 0 where there
+// is none.
+pub fn gap_of(s: &[u8]) -> Gap
+    ensures { λ r. ⌜ r ≡ gapIn (decoded (now (s .entry))) ⌝ }
+{
+    if 0 < s.len() {
+        let gap = short_gap(s[0]);
+        if 0 < gap {
+            return Gap { gap, length: 1 };
+        }
+    }
+    match decode_long(s) {
+        Decoded::Rejected => Gap { gap: 0, length: 0 },
+        Decoded::Posting {
+            gap,
+            count: _,
+            length,
+        } => Gap { gap, length },
+    }
 }
 
 // Demand 2, as a contract, so that the gate fails without it.

@@ -2,8 +2,9 @@
 -- Assumes nothing.
 use Rattle.chains.proofs.is_sound.Statement.{statement}
 use Rattle.chains.proofs.is_sound.Tie as tie
-use Rattle.chains.proofs.Counting.{Counted, start, more, ended, miscounted, broken}
-use Prim.Native.Nat.{_+_, _-_, _<_}
+use Rattle.chains.proofs.Counting.{Counted, start, more, passed, ended, miscounted, broken}
+use Rattle.chains.proofs.Parts.{step-part, within-number}
+use Prim.Native.Nat.{ℕ, _+_, _-_, _<_}
 use native.Mathlib.Omega.{arith}
 use borrow.Author.Needs.{needs}
 use mathlib.Core.Path.{_≡_, sym, ap, _∙_}
@@ -79,14 +80,53 @@ returns-4 c = sym (miscounted (c .before .before .before .before .before .loop .
 enum-known-next : tie.Need-enum-known-next Inv-loop μ-loop
 enum-known-next c = search needs
 
+-- the first posting of a block
+module _ (c : tie.After-next Inv-loop μ-loop) where
+  abbrev t : tie.After-advance Inv-loop μ-loop
+  t = c .before .before
+
+  abbrev r : tie.Start Inv-loop μ-loop
+  r = t .before .before .before .before .before .before .before
+
+  met : stepAt (now (r .args .arena)) (r .args .used) (r .args .reports) (t .before .loop .c) ≡ step.Posting (c .next .given .0 .0) (c .next .given .0 .1 .0) (c .next .given .0 .1 .1 .0)
+  met = stepped t _ (c .next .given .1)
+
+pass-part-requires : tie.Need-pass-part-requires Inv-loop μ-loop
+pass-part-requires c κs =
+    let n = c .before in
+    let i = t n .before .loop .inv in
+    step-part _ _ _ _ (i .far) (i .follows) (met n)
+
+-- and those behind it
+module _ (p : tie.After-pass-part Inv-loop μ-loop) where
+  abbrev n : tie.After-next Inv-loop μ-loop
+  n = p .before .before
+
+  abbrev q : tie.At-loop Inv-loop μ-loop
+  q = t n .before
+
+  abbrev k : ℕ
+  k = q .loop .n + (1 + p .pass-part .result .postings)
+
+  counted : Counted (now (r n .args .arena)) (r n .args .used) (r n .args .reports) (r n .args .h) (q .before .before .before .before .head-of .result) (p .pass-part .result .place) k
+  counted =
+      let e : k ≡ q .loop .n + 1 + p .pass-part .result .postings = omega arith in
+      rw e (passed (more (q .loop .inv) (met n)) (p .pass-part .ensures))
+
+  further : q .loop .c .number < p .pass-part .result .place .number
+  further = omega (arith, within-number (p .pass-part .ensures), step-follows _ _ _ _ (met n) .number, step-follows _ _ _ _ (met n) .ascends)
+
 add-n : tie.Need-add-n Inv-loop μ-loop
-add-n c = let s = step-follows _ _ _ _ (stepped (c .before .before .before) _ (c .before .next .given .1)) in omega arith
+add-n c = let w = counted (c .before .before) in omega (arith, w .few, w .within)
+
+add-n-2 : tie.Need-add-n-2 Inv-loop μ-loop
+add-n-2 c = let w = counted (c .before .before) in omega (arith, w .few, w .within)
 
 loop-less : tie.Need-loop-less Inv-loop μ-loop
-loop-less c = let s = step-follows _ _ _ _ (stepped (c .before .before .before) _ (c .before .next .given .1)) in omega arith
+loop-less c = omega (arith, further (c .before .before), counted (c .before .before) .within)
 
 loop-again : tie.Need-loop-again Inv-loop μ-loop
-loop-again c = more (c .before .before .before .before .loop .inv) (stepped (c .before .before .before) _ (c .before .next .given .1))
+loop-again c = counted (c .before .before)
 
 pub is-sound-spec : {M : Type 1} → statement M
 is-sound-spec =
@@ -106,6 +146,8 @@ is-sound-spec =
     returns-3
     returns-4
     enum-known-next
+    pass-part-requires
     add-n
+    add-n-2
     loop-less
     loop-again)
