@@ -48,7 +48,7 @@ fn is_exhausted(arena: &[u8], c: Cursor) -> bool
 }
 
 // Where the part of the cursor's block ends.
-fn part_end(c: Cursor) -> usize
+pub fn part_end(c: Cursor) -> usize
     ensures { λ r. ⌜ r ≡ partEnd c (c .block) ⌝ }
 {
     if c.block == c.tail { c.end } else { 64 }
@@ -148,7 +148,7 @@ pub struct Passed {
 }
 
 // The cursor's place with another offset in the same block.
-fn moved(c: Cursor, at: usize, number: u32) -> Cursor
+pub fn moved(c: Cursor, at: usize, number: u32) -> Cursor
     ensures { λ r. ⌜ r ≡ movedTo c at number ⌝ }
 {
     Cursor {

@@ -1,17 +1,18 @@
 -- What the functions of this crate share: a named term's chain, the postings of a head, and cursors that move forward together.
 use mathlib.Core.Path.{_≡_}
-use Prim.Native.Nat.{ℕ, suc, _-_, _≤_, _<_}
+use Prim.Native.Nat.{ℕ, suc, _+_, _-_, _≤_, _<_}
 use mathlib.Core.List.{List, [], map}
 use mathlib.Core.Bool.{Bool, true, false, cond, _||_}
 use lib.Dec.{leb, eqb}
-use lib.ListN.{length, getD, take}
+use lib.ListN.{length, getD, take, set}
 use Rattle.basics.specs.Lists.{keep}
 use Rattle.frames.specs.Frames.{firstTerm, queryRefusal, queryStart, queryTerms}
 use Rattle.counters.specs.Counters.{Memory}
 use Rattle.blocks.specs.Fields.{linkSize, headOf, capacity}
 use Rattle.blocks.specs.Prescribed.{Posting}
 use Rattle.chains.specs.declared.Cursor.{Cursor}
-use Rattle.chains.specs.Chains.{Reading, run, atHead, isWhole, chainOf, Follows}
+use Rattle.chains.specs.declared.Step.the-variants as step
+use Rattle.chains.specs.Chains.{Reading, exhausted, readAt, run, atHead, isWhole, chainOf, Follows}
 use Rattle.lookup.specs.declared.Found.{Found}
 use Rattle.lookup.specs.declared.Found.the-variants as found
 use Rattle.counters.specs.declared.Counters.{Counters}
@@ -40,6 +41,16 @@ fromStart a k h start = keep (λ p. leb start (p .number)) (postingsIn (chainOf 
 
 abbrev pub filledAs : ListAnswer → List ℕ → List ℕ → ListedOne
 filledAs r numbers counts = record { answer = r; numbers = numbers; counts = counts }
+
+-- lists filled while a cursor moves on within a part: before the start a posting is passed over, from there on it is stored in the next place
+pub data Fills (a : List ℕ) (reports start : ℕ) (c₀ : Cursor) (numbers₀ counts₀ : List ℕ) (n₀ : ℕ) : Cursor → List ℕ → List ℕ → ℕ → Type 0 where
+  none : Fills a reports start c₀ numbers₀ counts₀ n₀ c₀ numbers₀ counts₀ n₀
+  over : {c c′ : Cursor} {numbers counts : List ℕ} {n m f : ℕ} → Fills a reports start c₀ numbers₀ counts₀ n₀ c numbers counts n
+      → exhausted a c ≡ false → readAt a reports c (c .number) ≡ step.Posting m f c′ → m < start
+      → Fills a reports start c₀ numbers₀ counts₀ n₀ c′ numbers counts n
+  stored : {c c′ : Cursor} {numbers counts : List ℕ} {n m f : ℕ} → Fills a reports start c₀ numbers₀ counts₀ n₀ c numbers counts n
+      → exhausted a c ≡ false → readAt a reports c (c .number) ≡ step.Posting m f c′ → start ≤ m → n < length numbers → n < length counts
+      → Fills a reports start c₀ numbers₀ counts₀ n₀ c′ (set numbers n m) (set counts n f) (n + 1)
 
 -- ---- all terms
 
