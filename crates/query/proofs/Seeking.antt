@@ -17,6 +17,9 @@ use Rattle.chains.specs.declared.Cursor.{Cursor}
 use Rattle.chains.specs.declared.Step.{Step}
 use Rattle.chains.specs.declared.Step.the-variants as step
 use Rattle.chains.specs.Chains.{whole, isWhole, stepAt, atHead, chainOf}
+use Rattle.chains.specs.Parts.{Within, here, on}
+use Rattle.chains.proofs.Steps.{step-here}
+use Rattle.chains.proofs.Parts.{step-part}
 use Rattle.chains.proofs.Laws.{step-follows, rest, whole-posting, whole-end, whole-undamaged, head-follows, head-rest, is-whole, chain-whole}
 use Rattle.counters.specs.declared.Counters.{Counters}
 use Rattle.query.specs.Listing.{postingsIn, holds}
@@ -33,11 +36,11 @@ rest-same : {p q : Posting} {ps qs : List Posting} → p ∷ ps ≡ q ∷ qs →
 rest-same e = cc
 
 -- one more posting
-holds-cons : (p : Posting) (ps : List Posting) (n : ℕ) → holds (p ∷ ps) n ≡ eqb (p .number) n || holds ps n
+pub holds-cons : (p : Posting) (ps : List Posting) (n : ℕ) → holds (p ∷ ps) n ≡ eqb (p .number) n || holds ps n
 unfolding holds any
 holds-cons p ps n = refl
 
-holds-none : (n : ℕ) → holds [] n ≡ false
+pub holds-none : (n : ℕ) → holds [] n ≡ false
 unfolding holds any
 holds-none n = refl
 
@@ -89,7 +92,13 @@ module _ {a : List ℕ} {k : Counters} {c : Cursor} (s : Stands a k c) where
     stands-on =
         let t = step-follows a (k .used) (k .reports) c e in
         let v = whole-posting a (k .used) (k .reports) c (reads .0) (reads .1) e in
-        record { follows = t .follows (s .follows); far = rw (t .end) (s .far); sound = ap isWhole (v .1) }
+        record {
+          follows = t .follows (s .follows);
+          far = rw (t .end) (s .far);
+          sound = ap isWhole (v .1);
+          within = omega (arith, t .number, t .within);
+          in-part = λ _. step-part a (k .used) (k .reports) c (s .far) (s .follows) e;
+        }
 
     -- only the report left behind is no longer ahead
     pub ahead-on : (n : ℕ) → c .number < n → ahead a k c n ≡ ahead a k c′ n
@@ -114,10 +123,26 @@ module _ {a : List ℕ} {k : Counters} {c₀ : Cursor} {number : ℕ} {c : Curso
 
   -- it is there, or the chain ends before
   pub arrived : number ≤ c .number → Sought a k c₀ number c
-  arrived h = record { stands = p .stands; same = p .same; here = ahead-here (p .stands) number h }
+  arrived h = record { stands = p .stands; same = p .same; none-left = λ l. absurd (omega arith) }
 
   pub stopped : stepAt a (k .used) (k .reports) c ≡ step.End → Sought a k c₀ number c
-  stopped e = record { stands = p .stands; same = p .same; here = ahead-end (p .stands) e number }
+  stopped e = record {
+    stands = p .stands;
+    same = p .same;
+    none-left = λ l n i. ahead-end (p .stands) e n ∙ ne-eqb (c .number) n (λ q. omega arith);
+  }
+
+-- several postings of a part
+pub passing-within : {a : List ℕ} {k : Counters} {c₀ c c′ : Cursor} {number j : ℕ} → Passing a k c₀ number c → Within a (k .reports) number c j c′ → Passing a k c₀ number c′
+passing-within p here = p
+passing-within {a} {k} p (on w l e r) = passing-on (passing-within p w) l (step-here a (k .used) (k .reports) _ e ∙ r)
+
+-- a cursor on its way with a number of at least `low`
+abbrev pub Later : List ℕ → Counters → Cursor → ℕ → ℕ → Cursor → Type 0
+Later a k c₀ number low c = Passing a k c₀ number c × (low ≤ c .number)
+
+pub later-as : {a : List ℕ} {k : Counters} {c₀ c c′ : Cursor} {number low : ℕ} → Later a k c₀ number low c → c′ ≡ c → Later a k c₀ number low c′
+later-as l e = rw e l
 
 -- ---- the chain of a head
 
@@ -139,7 +164,7 @@ module _ {a : List ℕ} {k : Counters} {h : ℕ} (r : Readable a k h) where
       let w = is-whole (chainOf a (k .used) (k .reports) h) (r .sound) in
       let v = chain-whole a (k .used) (k .reports) h (w .0) (w .1) in
       let f = head-follows a (k .used) h (headOf a h) (omega (arith, r .inside)) (r .in-use) (v .good) in
-      record { follows = f .0; far = f .1; sound = ap isWhole (head-reads .2) }
+      record { follows = f .0; far = f .1; sound = ap isWhole (head-reads .2); within = omega arith; in-part = λ l. absurd (omega arith) }
 
   pub head-stream : Stream a k h 1 (atHead (headOf a h) (k .used) h)
   unfolding atHead postingsIn

@@ -12,6 +12,7 @@ use Rattle.blocks.specs.Fields.{linkSize, headOf, capacity}
 use Rattle.blocks.specs.Prescribed.{Posting}
 use Rattle.chains.specs.declared.Cursor.{Cursor}
 use Rattle.chains.specs.declared.Step.the-variants as step
+use Rattle.chains.specs.Parts.{InPart}
 use Rattle.chains.specs.Chains.{Reading, exhausted, readAt, run, atHead, isWhole, chainOf, Follows}
 use Rattle.lookup.specs.declared.Found.{Found}
 use Rattle.lookup.specs.declared.Found.the-variants as found
@@ -54,6 +55,9 @@ pub data Fills (a : List ℕ) (reports start : ℕ) (c₀ : Cursor) (numbers₀ 
 
 -- ---- all terms
 
+abbrev pub listedAs : Bool → ℕ → ListAnswer
+listedAs more filled = record { refusal = 0; more = more; filled = filled }
+
 abbrev pub allAs : ListAnswer → List ℕ → ListedAll
 allAs r numbers = record { answer = r; numbers = numbers }
 
@@ -66,16 +70,18 @@ pub record Stands (a : List ℕ) (k : Counters) (c : Cursor) : Type 0 where
   pub follows : Follows a (k .used) c
   pub far : linkSize ≤ c .end
   pub sound : isWhole (left a k c) ≡ true
+  pub within : c .number ≤ k .reports
+  pub in-part : 0 < c .first → InPart a (k .reports) c
 
 -- report n is the one at the cursor or one behind it
 unfoldable pub ahead : List ℕ → Counters → Cursor → ℕ → Bool
 ahead a k c n = eqb (c .number) n || holds (postingsIn (left a k c)) n
 
--- cursor r is c moved forward: it has the same reports from `number` on, and report `number` stands at it or nowhere
+-- cursor r is c moved forward: it has the same reports from `number` on, and none of them where it stopped before `number`
 pub record Sought (a : List ℕ) (k : Counters) (c : Cursor) (number : ℕ) (r : Cursor) : Type 0 where
   pub stands : Stands a k r
   pub same : (n : ℕ) → number ≤ n → ahead a k c n ≡ ahead a k r n
-  pub here : ahead a k r number ≡ eqb (r .number) number
+  pub none-left : r .number < number → (n : ℕ) → number ≤ n → ahead a k r n ≡ false
 
 -- the reports of a head's chain
 abbrev pub postingsAt : List ℕ → Counters → ℕ → List Posting
