@@ -1,0 +1,136 @@
+-- Cutting the input into frames: the lines for an input are those for its first frame and then those for the rest, whatever comes behind.
+-- Assumes nothing.
+use Prim.Native.Nat.{ℕ, zero, suc, _+_, _-_, _≤_, _<_}
+use mathlib.Core.Path.{_≡_, refl, ap, sym, _∙_}
+use mathlib.Core.List.{List, [], _∷_, _++_, append-nil, append-assoc}
+use mathlib.Core.Bool.{Bool, true, false, cond}
+use native.Mathlib.Omega.{arith}
+use lib.Dec.{ltb, leb, eqb}
+use lib.ListN.{length, getD, take, drop, length-append, length-drop, drop-of-length-le, List·getD-append}
+use lib.Seq.{take-all, take-append-le, drop-append-le}
+use borrow.Author.Tests.{ltb-true, ltb-false, le-leb, lt-leb, eq-eqb, ne-eqb}
+use Rattle.basics.proofs.Cases.{by-lt, by-eq}
+use Rattle.frames.specs.Frames.{maxBody, bodyLength}
+use Rattle.counters.specs.declared.Counters.{Counters}
+use Rattle.counters.specs.Counters.{Memory, memory}
+use Rattle.desk.specs.Desk.{Answered, answered, overlong, frameLength, frontFrame, linesUpTo, lines}
+use Rattle.desk.specs.Needs.{longestFrame, readyLength, Comes}
+
+-- a memory by its parts
+pub memory-is : (m : Memory) {a table : List ℕ} {k : Counters} → a ≡ m .arena → table ≡ m .table → k ≡ m .counters → memory a table k ≡ m
+memory-is m p q r = rw (p, q, r)
+
+-- ---- the length of a frame
+
+length-case : (b : Bool) (n : ℕ) → (b ≡ false → n ≤ maxBody) → (3 ≤ cond b 4 (3 + n)) × (cond b 4 (3 + n) ≤ longestFrame)
+length-case true n h = (omega arith, omega arith)
+length-case false n h = (omega arith, omega (arith, h refl))
+
+frame-range : (s : List ℕ) → (3 ≤ frameLength s) × (frameLength s ≤ longestFrame)
+unfolding frameLength overlong
+frame-range s = length-case (overlong s) (bodyLength s) (λ e. ltb-false maxBody (bodyLength s) e)
+
+pub frame-some : (s : List ℕ) → 3 ≤ frameLength s
+frame-some s = frame-range s .0
+
+pub frame-le : (s : List ℕ) → frameLength s ≤ longestFrame
+frame-le s = frame-range s .1
+
+-- the three bytes before the body decide it
+module _ (s t : List ℕ) (h : 3 ≤ length s) where
+  body-same : bodyLength (s ++ t) ≡ bodyLength s
+  unfolding bodyLength
+  body-same = rw (List·getD-append s t 0 1 (omega arith), List·getD-append s t 0 2 (omega arith))
+
+  over-same : overlong (s ++ t) ≡ overlong s
+  unfolding overlong
+  over-same = ap (λ (n : ℕ). ltb maxBody n) body-same
+
+  frame-same : frameLength (s ++ t) ≡ frameLength s
+  unfolding frameLength
+  frame-same = rw (over-same, body-same)
+
+-- ---- the lines of an input
+
+empty-none : (k : ℕ) (m : Memory) (s : List ℕ) → length s ≡ 0 → linesUpTo k m s ≡ []
+unfolding linesUpTo
+empty-none zero m s e = refl
+empty-none (suc k) m s e = rw (eq-eqb (length s) 0 e)
+
+-- fuel for every byte is enough
+agree : (j k : ℕ) (m : Memory) (s : List ℕ) → length s ≤ j → length s ≤ k → linesUpTo j m s ≡ linesUpTo k m s
+unfolding linesUpTo
+agree zero k m s p q = sym (empty-none k m s (omega arith))
+agree (suc j) zero m s p q = empty-none (suc j) m s (omega arith)
+agree (suc j) (suc k) m s p q =
+    by-eq (length s) 0 (λ e. rw (eq-eqb (length s) 0 e))
+    (λ n. rw (ne-eqb (length s) 0 n, agree j k (answered m (frontFrame s) .left) (drop (frameLength s) s) (simp length-drop (omega (arith, frame-some s))) (simp length-drop (omega (arith, frame-some s)))))
+
+-- the first frame's line, and those for what is behind it
+step : (k : ℕ) (m : Memory) (s : List ℕ) → 0 < length s → length s ≤ suc k → linesUpTo (suc k) m s ≡ answered m (frontFrame s) .line ++ cond (overlong s) [] (lines (answered m (frontFrame s) .left) (drop (frameLength s) s))
+unfolding linesUpTo lines
+step k m s h p =
+    rw (ne-eqb (length s) 0 (λ e. omega arith), agree k (length (drop (frameLength s) s)) (answered m (frontFrame s) .left) (drop (frameLength s) s) (simp length-drop (omega (arith, frame-some s))) (omega arith))
+
+pub lines-step : (m : Memory) (s : List ℕ) → 0 < length s → lines m s ≡ answered m (frontFrame s) .line ++ cond (overlong s) [] (lines (answered m (frontFrame s) .left) (drop (frameLength s) s))
+unfolding lines
+lines-step m s h = agree (length s) (suc (length s)) m s (omega arith) (omega arith) ∙ step (length s) m s h (omega arith)
+
+pub lines-none : (m : Memory) → lines m [] ≡ []
+unfolding lines linesUpTo
+lines-none m = refl
+
+-- ---- a frame that can be judged now
+
+pub ready-le : (ended : Bool) (s : List ℕ) → readyLength ended s ≤ length s
+unfolding readyLength
+ready-le true s = by-lt (length s) (frameLength s) (λ h. rw (lt-leb _ _ h) (omega arith)) (λ h. rw (le-leb _ _ h) h)
+ready-le false s = by-lt (length s) (frameLength s) (λ h. rw (lt-leb _ _ h) (omega arith)) (λ h. rw (le-leb _ _ h) h)
+
+-- where none can be judged: nothing is left, or the input has not ended and less than a frame is there
+pub ready-ended : (s : List ℕ) → readyLength true s ≡ 0 → length s ≡ 0
+unfolding readyLength
+ready-ended s = by-lt (length s) (frameLength s) (λ h. rw (lt-leb _ _ h) (λ e. e)) (λ h. rw (le-leb _ _ h) (λ e. omega (arith, frame-some s)))
+
+pub ready-starved : (s : List ℕ) → readyLength false s ≡ 0 → length s < longestFrame
+unfolding readyLength
+ready-starved s = by-lt (length s) (frameLength s) (λ h e. omega (arith, frame-le s)) (λ h. rw (le-leb _ _ h) (λ e. omega (arith, frame-some s)))
+
+-- what is cut off the front does not depend on what comes behind
+pub record Cuts (s t : List ℕ) (n : ℕ) : Type 0 where
+  pub front : frontFrame (s ++ t) ≡ take n s
+  pub over : overlong (s ++ t) ≡ overlong s
+  pub rest : drop (frameLength (s ++ t)) (s ++ t) ≡ drop n s ++ t
+
+cuts-whole : (s t : List ℕ) → frameLength s ≤ length s → Cuts s t (frameLength s)
+unfolding frontFrame
+cuts-whole s t h =
+    let l : 3 ≤ length s = omega (arith, frame-some s) in
+    record {
+      front = rw (frame-same s t l) (take-append-le (frameLength s) s t h);
+      over = over-same s t l;
+      rest = rw (frame-same s t l) (drop-append-le (frameLength s) s t h);
+    }
+
+cuts-last : (s : List ℕ) → length s < frameLength s → Cuts s [] (length s)
+unfolding frontFrame
+cuts-last s h =
+    let a : drop (frameLength s) s ≡ [] = drop-of-length-le s {i = frameLength s} (omega arith) in
+    let b : drop (length s) s ≡ [] = drop-of-length-le s {i = length s} (omega arith) in
+    record {
+      front = rw append-nil (take-all (frameLength s) s (omega arith) ∙ sym (take-all (length s) s (omega arith)));
+      over = rw append-nil;
+      rest = rw (append-nil s, a, b);
+    }
+
+pub ready-cuts : (ended : Bool) (s t : List ℕ) → Comes ended t → (readyLength ended s ≡ 0 → ⊥) → Cuts s t (readyLength ended s)
+unfolding readyLength Comes
+ready-cuts true s t e n = by-lt (length s) (frameLength s) (λ h. rw (lt-leb _ _ h, e) (cuts-last s h)) (λ h. rw (le-leb _ _ h) (cuts-whole s t h))
+ready-cuts false s t e n = by-lt (length s) (frameLength s) (λ h. absurd (n (rw (lt-leb _ _ h)))) (λ h. rw (le-leb _ _ h) (cuts-whole s t h))
+
+-- so the lines are that frame's line and those for the rest
+pub ready-lines : (ended : Bool) (m : Memory) (s t : List ℕ) → Comes ended t → (readyLength ended s ≡ 0 → ⊥) → let n = readyLength ended s in lines m (s ++ t) ≡ answered m (take n s) .line ++ cond (overlong s) [] (lines (answered m (take n s) .left) (drop n s ++ t))
+ready-lines ended m s t e n =
+    let c = ready-cuts ended s t e n in
+    let h : 0 < length (s ++ t) = rw length-append (omega (arith, ready-le ended s)) in
+    lines-step m (s ++ t) h ∙ rw (c .front, c .over, c .rest)
