@@ -2,23 +2,18 @@
 -- Assumes nothing.
 use Prim.Native.Nat.{ℕ, zero, suc, _+_, _-_, _≤_, _<_}
 use mathlib.Core.Path.{_≡_, refl, ap, sym, _∙_}
-use mathlib.Core.List.{List, [], _∷_, _++_, append-nil, append-assoc}
+use mathlib.Core.List.{List, [], _∷_, _++_, append-nil}
 use mathlib.Core.Bool.{Bool, true, false, cond}
 use native.Mathlib.Omega.{arith}
-use lib.Dec.{ltb, leb, eqb}
-use lib.ListN.{length, getD, take, drop, length-append, length-drop, drop-of-length-le, List·getD-append}
+use lib.Dec.{ltb}
+use lib.ListN.{length, take, drop, length-append, length-drop, drop-of-length-le, List·getD-append}
 use lib.Seq.{take-all, take-append-le, drop-append-le}
-use borrow.Author.Tests.{ltb-true, ltb-false, le-leb, lt-leb, eq-eqb, ne-eqb}
+use borrow.Author.Tests.{ltb-false, le-leb, lt-leb, eq-eqb, ne-eqb}
 use Rattle.basics.proofs.Cases.{by-lt, by-eq}
 use Rattle.frames.specs.Frames.{maxBody, bodyLength}
-use Rattle.counters.specs.declared.Counters.{Counters}
-use Rattle.counters.specs.Counters.{Memory, memory}
-use Rattle.desk.specs.Desk.{Answered, answered, overlong, frameLength, frontFrame, linesUpTo, lines}
+use Rattle.counters.specs.Counters.{Memory}
+use Rattle.desk.specs.Desk.{answered, overlong, frameLength, frontFrame, frames, framesUpTo, linesOf, lines}
 use Rattle.desk.specs.Needs.{longestFrame, readyLength, Comes}
-
--- a memory by its parts
-pub memory-is : (m : Memory) {a table : List ℕ} {k : Counters} → a ≡ m .arena → table ≡ m .table → k ≡ m .counters → memory a table k ≡ m
-memory-is m p q r = rw (p, q, r)
 
 -- ---- the length of a frame
 
@@ -50,35 +45,53 @@ module _ (s t : List ℕ) (h : 3 ≤ length s) where
   unfolding frameLength
   frame-same = rw (over-same, body-same)
 
--- ---- the lines of an input
+-- ---- the frames of an input
 
-empty-none : (k : ℕ) (m : Memory) (s : List ℕ) → length s ≡ 0 → linesUpTo k m s ≡ []
-unfolding linesUpTo
-empty-none zero m s e = refl
-empty-none (suc k) m s e = rw (eq-eqb (length s) 0 e)
+empty-none : (k : ℕ) (s : List ℕ) → length s ≡ 0 → framesUpTo k s ≡ []
+unfolding framesUpTo
+empty-none zero s e = refl
+empty-none (suc k) s e = rw (eq-eqb (length s) 0 e)
 
 -- fuel for every byte is enough
-agree : (j k : ℕ) (m : Memory) (s : List ℕ) → length s ≤ j → length s ≤ k → linesUpTo j m s ≡ linesUpTo k m s
-unfolding linesUpTo
-agree zero k m s p q = sym (empty-none k m s (omega arith))
-agree (suc j) zero m s p q = empty-none (suc j) m s (omega arith)
-agree (suc j) (suc k) m s p q =
+agree : (j k : ℕ) (s : List ℕ) → length s ≤ j → length s ≤ k → framesUpTo j s ≡ framesUpTo k s
+unfolding framesUpTo
+agree zero k s p q = sym (empty-none k s (omega arith))
+agree (suc j) zero s p q = empty-none (suc j) s (omega arith)
+agree (suc j) (suc k) s p q =
     by-eq (length s) 0 (λ e. rw (eq-eqb (length s) 0 e))
-    (λ n. rw (ne-eqb (length s) 0 n, agree j k (answered m (frontFrame s) .left) (drop (frameLength s) s) (simp length-drop (omega (arith, frame-some s))) (simp length-drop (omega (arith, frame-some s)))))
+    (λ n. rw (ne-eqb (length s) 0 n, agree j k (drop (frameLength s) s) (simp length-drop (omega (arith, frame-some s))) (simp length-drop (omega (arith, frame-some s)))))
+
+-- the first frame, and those behind it
+step : (k : ℕ) (s : List ℕ) → 0 < length s → length s ≤ suc k → framesUpTo (suc k) s ≡ frontFrame s ∷ cond (overlong s) [] (frames (drop (frameLength s) s))
+unfolding framesUpTo frames
+step k s h p =
+    rw (ne-eqb (length s) 0 (λ e. omega arith), agree k (length (drop (frameLength s) s)) (drop (frameLength s) s) (simp length-drop (omega (arith, frame-some s))) (omega arith))
+
+pub frames-step : (s : List ℕ) → 0 < length s → frames s ≡ frontFrame s ∷ cond (overlong s) [] (frames (drop (frameLength s) s))
+unfolding frames
+frames-step s h = agree (length s) (suc (length s)) s (omega arith) (omega arith) ∙ step (length s) s h (omega arith)
+
+pub frames-none : frames [] ≡ []
+unfolding frames framesUpTo
+frames-none = refl
+
+-- ---- the lines of an input
+
+stopped : (b : Bool) (m : Memory) (fs : List (List ℕ)) → linesOf m (cond b [] fs) ≡ cond b [] (linesOf m fs)
+unfolding linesOf
+stopped true m fs = refl
+stopped false m fs = refl
 
 -- the first frame's line, and those for what is behind it
-step : (k : ℕ) (m : Memory) (s : List ℕ) → 0 < length s → length s ≤ suc k → linesUpTo (suc k) m s ≡ answered m (frontFrame s) .line ++ cond (overlong s) [] (lines (answered m (frontFrame s) .left) (drop (frameLength s) s))
-unfolding linesUpTo lines
-step k m s h p =
-    rw (ne-eqb (length s) 0 (λ e. omega arith), agree k (length (drop (frameLength s) s)) (answered m (frontFrame s) .left) (drop (frameLength s) s) (simp length-drop (omega (arith, frame-some s))) (omega arith))
-
 pub lines-step : (m : Memory) (s : List ℕ) → 0 < length s → lines m s ≡ answered m (frontFrame s) .line ++ cond (overlong s) [] (lines (answered m (frontFrame s) .left) (drop (frameLength s) s))
-unfolding lines
-lines-step m s h = agree (length s) (suc (length s)) m s (omega arith) (omega arith) ∙ step (length s) m s h (omega arith)
+unfolding lines linesOf
+lines-step m s h =
+    let a = answered m (frontFrame s) in
+    rw (frames-step s h) (ap (λ (l : List ℕ). a .line ++ l) (stopped (overlong s) (a .left) (frames (drop (frameLength s) s))))
 
 pub lines-none : (m : Memory) → lines m [] ≡ []
-unfolding lines linesUpTo
-lines-none m = refl
+unfolding lines linesOf
+lines-none m = rw frames-none
 
 -- ---- a frame that can be judged now
 

@@ -5,3 +5,5 @@ pub mod Listings
 pub mod Cutting
 pub mod Serving
 pub mod Turns
+pub mod LastFrames
+pub mod LedgerTold

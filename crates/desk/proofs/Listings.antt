@@ -1,7 +1,7 @@
 -- Laws of the calls' answers: what a listing fills fits its lists, and the lines of listings.
 -- Assumes nothing.
 use Prim.Native.Nat.{ℕ, _≤_, min}
-use mathlib.Core.Path.{_≡_, refl, ap, sym, _∙_}
+use mathlib.Core.Path.{_≡_, ap}
 use mathlib.Core.List.{List, _∷_, _++_}
 use mathlib.Core.Bool.{Bool, true, false, cond}
 use native.Mathlib.Omega.{arith}
@@ -9,12 +9,14 @@ use lib.Dec.{eqb}
 use lib.ListN.{length, take}
 use borrow.Author.Tests.{eq-eqb, ne-eqb}
 use Rattle.blocks.specs.Prescribed.{Posting}
-use Rattle.counters.specs.Counters.{Memory}
+use Rattle.counters.specs.Counters.{Memory, memory}
+use Rattle.ingest.specs.declared.Taken.{Taken}
+use Rattle.ingest.specs.Report.{reportCall, takenOf}
 use Rattle.query.specs.declared.ListAnswer.{ListAnswer}
 use Rattle.query.specs.Listing.{ListedOne, ListedAll, refused, listRefusal, matches, listOne, listAll, listOneCall, listAllCall}
 use Rattle.query.specs.Needs.{filledAs, allAs}
-use Rattle.desk.specs.declared.Kind.the-variants.{One, All}
-use Rattle.desk.specs.Text.{letterE, letterQ, numbered, pairsText, placesText, endText, listLine, oneLine, allLine}
+use Rattle.desk.specs.declared.Kind.the-variants.{Report, One, All}
+use Rattle.desk.specs.Text.{letterE, letterQ, numbered, reportLine, pairsText, placesText, endText, listLine, oneLine, allLine}
 use Rattle.desk.specs.Desk.{emptyList, answeredAs}
 
 -- ---- no more is filled than the shorter list has places
@@ -73,3 +75,14 @@ module _ (m : Memory) (f : List ℕ) (r : ListAnswer) where
     pub all-text : listLine r (placesText (take (r .filled) numbers)) ≡ answeredAs All m f .line
     unfolding answeredAs allLine
     all-text = ap allLine e
+
+-- ---- a report
+
+module _ (m : Memory) (f : List ℕ) (t : Taken) (e : t ≡ takenOf (reportCall m f)) where
+  pub report-text : reportLine (t .answer) ≡ answeredAs Report m f .line
+  unfolding answeredAs takenOf
+  report-text = ap (λ (x : Taken). reportLine (x .answer)) e
+
+  pub report-left : {a table : List ℕ} → a ≡ reportCall m f .left .arena → table ≡ reportCall m f .left .table → memory a table (t .counters) ≡ answeredAs Report m f .left
+  unfolding answeredAs takenOf
+  report-left p q = rw (p, q, ap (λ (x : Taken). x .counters) e)

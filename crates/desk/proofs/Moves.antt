@@ -32,7 +32,7 @@ module _ (s : List ℕ) (from n : ℕ) (inside : from + n ≤ length s) where
       record {
         few = omega arith;
         long = simp length-set (m .long);
-        left = (rw (zero-add, zero-add) at (sets-turn t 0 part i (getD t (from + i) 0) 0 (omega (arith, part-length)) e)) ∙ m .left;
+        left = (rw (zero-add i, zero-add (i + 1)) at (sets-turn t 0 part i (getD t (from + i) 0) 0 (omega (arith, part-length)) e)) ∙ m .left;
         same = λ j p. getD-set-other t i j (getD t (from + i) 0) 0 (λ q. omega arith) ∙ m .same j (omega arith);
       }
 

@@ -1,14 +1,13 @@
 -- The kind of a frame chooses its call; a kind that no call has is refused as reading a report refuses it.
 -- Assumes nothing.
 use Prim.Native.Nat.{ℕ, _<_}
-use mathlib.Core.Path.{_≡_, refl, sym, _∙_}
+use mathlib.Core.Path.{_≡_}
 use mathlib.Core.List.{List}
 use mathlib.Core.Bool.{Bool, true, false, cond}
 use native.Mathlib.Omega.{arith}
 use borrow.Author.Tests.{ne-eqb}
 use Rattle.frames.specs.Refusals.{firstOf}
 use Rattle.frames.specs.Frames.{kind, wrongVersion, wrongLength, wrongKind, headRows, reportRows, reportRefusal}
-use Rattle.desk.specs.declared.Kind.{Kind}
 use Rattle.desk.specs.declared.Kind.the-variants.{Report, One, All, Other}
 use Rattle.desk.specs.Desk.{kindOf, otherRefusal}
 

@@ -1,20 +1,20 @@
 -- Answering the frames at the front of the bytes at hand, one after the other: what holds between two of them, and at each end.
 -- Assumes nothing.
-use Prim.Native.Nat.{ℕ, _+_, _-_, _≤_, _<_}
+use Prim.Native.Nat.{ℕ, _+_, _-_, _≤_}
 use mathlib.Core.Path.{_≡_, refl, ap, sym, _∙_}
-use mathlib.Core.List.{List, [], _∷_, _++_, append-nil, append-assoc}
+use mathlib.Core.List.{List, [], _∷_, _++_, append-assoc}
 use mathlib.Core.Bool.{Bool, true, false, cond}
 use native.Mathlib.Omega.{arith}
-use lib.ListN.{length, take, drop, length-append, length-drop, drop-of-length-le}
+use lib.ListN.{length, take, drop, length-append, length-drop}
 use lib.Seq.{sets, length-sets, take-all, drop-drop}
 use Rattle.basics.proofs.Stores.{sets-two}
 use Rattle.counters.specs.declared.Counters.{Counters}
 use Rattle.counters.specs.Counters.{Memory}
 use Rattle.desk.specs.declared.Answer.{Answer}
 use Rattle.desk.specs.declared.Next.{Next}
-use Rattle.desk.specs.declared.Next.the-variants.{Settle, Read, Stop}
+use Rattle.desk.specs.declared.Next.the-variants.{Settle, Stop}
 use Rattle.desk.specs.Desk.{answered, overlong, lines}
-use Rattle.desk.specs.Needs.{Puts, Answers, Settles, longestLine, readyLength, waitingFor, Comes, linesAfter}
+use Rattle.desk.specs.Needs.{Answers, Settles, longestLine, readyLength, waitingFor, Comes, linesAfter}
 use Rattle.desk.proofs.Cutting.{lines-none, ready-le, ready-ended, ready-starved, ready-lines}
 
 -- the part of a list from n on

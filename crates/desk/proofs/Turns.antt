@@ -1,15 +1,14 @@
 -- A turn of the program, and the program turn after turn: what was read and written so far, and what is still to come.
 -- Assumes nothing.
-use Prim.Native.Nat.{ℕ, _+_, _-_, _≤_, _<_}
-use mathlib.Core.Path.{_≡_, refl, ap, sym, _∙_}
-use mathlib.Core.List.{List, [], _∷_, _++_, append-nil, append-assoc}
+use Prim.Native.Nat.{ℕ, _+_, _-_, _≤_}
+use mathlib.Core.Path.{_≡_, ap, sym, _∙_}
+use mathlib.Core.List.{List, [], _++_, append-nil, append-assoc}
 use mathlib.Core.Bool.{Bool, true, false}
 use native.Mathlib.Omega.{arith}
-use lib.ListN.{length, take, drop, replicate, length-take, length-drop, length-append}
+use lib.ListN.{length, take, drop, replicate, length-take, length-drop}
 use lib.Seq.{sets, sets-eq, length-sets, take-at, take-add}
 use Rattle.basics.proofs.Parts.{drop-take}
 use Rattle.counters.specs.Counters.{Memory, memory}
-use Rattle.desk.specs.declared.Next.{Next}
 use Rattle.desk.specs.declared.Next.the-variants.{Settle, Read, Stop}
 use Rattle.desk.specs.declared.Piece.{Piece}
 use Rattle.desk.specs.declared.Piece.the-variants.{Bytes}
@@ -86,7 +85,7 @@ module _ {input after : List ℕ} {held : ℕ} {r : Piece} (w : Reads input held
       rw (e, take-add, w .kept) (record {
         read = v .read ++ more;
         wrote = v .wrote;
-        so-far = λ t c. rw (append-assoc, append-assoc) (v .so-far (more ++ t) (rw e tt));
+        so-far = λ t c. rw (append-assoc (v .read) more t, append-assoc (take held input) more t) (v .so-far (more ++ t) (rw e tt));
       })
 
   -- the input has ended

@@ -4,7 +4,7 @@ use mathlib.Core.List.{List, [], _∷_, _++_}
 use mathlib.Core.Bool.{Bool, true, cond}
 use lib.Dec.{ltb, eqb}
 use lib.ListN.{length, take, drop, replicate}
-use Rattle.frames.specs.Refusals.{Row, _if_, firstOf}
+use Rattle.frames.specs.Refusals.{_if_, firstOf}
 use Rattle.frames.specs.Frames.{bodyLength, kind, maxBody, wrongVersion, wrongLength}
 use Rattle.blocks.specs.Fields.{blockSize}
 use Rattle.counters.specs.Counters.{Memory, memory}
@@ -69,18 +69,25 @@ frameLength s = cond (overlong s) 4 (3 + bodyLength s)
 unfoldable pub frontFrame : List ℕ → List ℕ
 frontFrame s = take (frameLength s) s
 
--- ---- the whole input: a line for each frame, until the input ends or a frame stops the program; an end between frames gives no line
-
-unfoldable pub linesUpTo : ℕ → Memory → List ℕ → List ℕ
-linesUpTo zero m s = []
-linesUpTo (suc fuel) m s =
-    let a = answered m (frontFrame s) in
-    let on = linesUpTo fuel (a .left) (drop (frameLength s) s) in
-    cond (eqb (length s) 0) [] (a .line ++ cond (overlong s) [] on)
+-- the frames of an input, until it ends or a frame stops the program; an end between frames is no frame
+unfoldable pub framesUpTo : ℕ → List ℕ → List (List ℕ)
+framesUpTo zero s = []
+framesUpTo (suc fuel) s =
+    let on = framesUpTo fuel (drop (frameLength s) s) in
+    cond (eqb (length s) 0) [] (frontFrame s ∷ cond (overlong s) [] on)
 
 -- every frame takes at least one byte of the input
+unfoldable pub frames : List ℕ → List (List ℕ)
+frames s = framesUpTo (length s) s
+
+-- ---- the whole input: a line for each frame, each answered on the memory that the one before it left
+
+unfoldable pub linesOf : Memory → List (List ℕ) → List ℕ
+linesOf m [] = []
+linesOf m (f ∷ fs) = answered m f .line ++ linesOf (answered m f .left) fs
+
 unfoldable pub lines : Memory → List ℕ → List ℕ
-lines m s = linesUpTo (length s) m s
+lines m s = linesOf m (frames s)
 
 -- what the program writes
 unfoldable pub deskOutput : List ℕ → List ℕ

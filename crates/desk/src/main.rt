@@ -3,21 +3,20 @@
 ghost use mathlib.Core.Path.{_≡_};
 ghost use Prim.Native.Nat.{_+_, _-_, _*_, _≤_, _<_};
 ghost use mathlib.Core.List.{[], _∷_};
-ghost use lib.ListN.{length, getD, take, drop, replicate};
+ghost use lib.ListN.{length, getD, take, drop};
 ghost use lib.Seq.{sets};
 ghost use Rattle.frames.specs.Frames.{bodyLength};
 ghost use Rattle.counters.specs.Counters.{memory};
-ghost use Rattle.query.specs.Needs.{filledAs, allAs};
 ghost use Rattle.desk.specs.Text.{decimal, numbered, reportLine, pairText, pairsText, placeText, placesText, endText};
-ghost use Rattle.desk.specs.Desk.{arenaBytes, tableEntries, kindOf, otherRefusal, answered, answeredAs, frameLength, overlong};
-ghost use Rattle.desk.specs.Needs.{Puts, Answers, Settles, Turns, Reads, longestLine, longestFrame, readyLength, waitingFor};
+ghost use Rattle.desk.specs.Desk.{kindOf, otherRefusal, answered, answeredAs, frameLength, overlong};
+ghost use Rattle.desk.specs.Needs.{Puts, Answers, Settles, Turns, Reads, longestLine, readyLength, waitingFor};
+ghost use Rattle.desk.specs.Claims.{LastRefused, TellsLedger};
 use counters::Counters;
 use frames::Report;
 use ingest::ReportAnswer;
 use libc::STDERR_FILENO;
 use libc::STDIN_FILENO;
 use libc::STDOUT_FILENO;
-use query::ListAnswer;
 
 // The call that a frame's kind asks for.
 enum Kind {
@@ -456,6 +455,13 @@ fn print(text: &[u8]) -> bool {
     }
     is_written
 }
+
+// Pinned as contracts, so that the gate fails without them: the frame that ends the program is refused under 1 or 2, and the whole output is the one
+// that the plain ledger gives.
+fn claims_hold()
+    ensures { λ _. ⌜ LastRefused ⌝ }
+    ensures { λ _. ⌜ TellsLedger ⌝ }
+{}
 
 // Turn after turn: the lines are written and more is read, until the input ends or a frame stops the program. A proved loop has to end, and nothing
 // says that the input does: so the turns are counted, from a number that no run uses up.

@@ -11,7 +11,7 @@ use Rattle.desk.proofs.+put_number.{statement}
 use Rattle.desk.proofs.+put_number.Tie.{close}
 use native.Mathlib.Omega.{arith}
 use borrow.Author.Needs.{needs}
-use mathlib.Core.Path.{refl, sym}
+use mathlib.Core.Path.{sym}
 use Rattle.desk.proofs.Texts.{decimal-one, decimal-more, ten-digits, nine-digits, puts-then, puts-as}
 
 abbrev μ-put-number : Measures 1 put-number-kinds.ps ℕ

@@ -5,7 +5,7 @@ use Rattle.desk.proofs.answer_all.Statement.{statement}
 use Rattle.desk.proofs.answer_all.Tie as tie
 use native.Mathlib.Omega.{arith}
 use Prim.Native.Nat.{ℕ, _≤_}
-use mathlib.Core.Path.{_≡_, refl, sym, _∙_}
+use mathlib.Core.Path.{_≡_, sym, _∙_}
 use mathlib.Core.List.{List}
 use denote.Ref.{now}
 use lib.ListN.{length, take}

@@ -4,7 +4,7 @@ use borrow.Author.Needs.{needs}
 use Rattle.desk.proofs.answer_frame.Statement.{statement}
 use Rattle.desk.proofs.answer_frame.Tie as tie
 use native.Mathlib.Omega.{arith}
-use mathlib.Core.Path.{_≡_, refl, ap, sym, subst, _∙_}
+use mathlib.Core.Path.{refl, sym, _∙_}
 use Rattle.desk.specs.Desk.{answeredAs, answered}
 use Rattle.desk.proofs.Texts.{puts-as}
 

@@ -4,14 +4,10 @@ use borrow.Author.Needs.{needs}
 use Rattle.desk.proofs.answer_report.Statement.{statement}
 use Rattle.desk.proofs.answer_report.Tie as tie
 use native.Mathlib.Omega.{arith}
-use mathlib.Core.Path.{refl, ap, sym, _∙_}
-use Rattle.ingest.specs.declared.Taken.{Taken}
-use Rattle.ingest.specs.Report.{takenOf}
+use denote.Ref.{now}
 use Rattle.counters.specs.Counters.{memory}
-use Rattle.desk.specs.Text.{reportLine}
-use Rattle.desk.specs.Desk.{answeredAs}
+use Rattle.desk.proofs.Listings.{report-text, report-left}
 use Rattle.desk.proofs.Texts.{puts-as}
-use Rattle.desk.proofs.Cutting.{memory-is}
 
 take-report-requires : tie.Need-take-report-requires
 take-report-requires c κs = search needs
@@ -29,12 +25,15 @@ same-length-3 : tie.Need-same-length-3
 same-length-3 c = search needs
 
 returns : tie.Need-returns
-unfolding answeredAs takenOf
 returns c =
+    let a = c .before .before .before .before .before .before .before .before .before .before .before .before .before .before .before .before .before .args in
+    let m = memory (now (a .arena)) (now (a .table)) (a .k) in
+    let f = now (a .frame) in
     let e = c .before .before .before .before .before .before .before .before .before .before .take-report .ensures in
+    let t = c .before .before .before .before .before .before .before .before .before .before .take-report .result in
     record {
-      puts = puts-as (c .before .before .put-report .ensures) (ap (λ (t : Taken). reportLine (t .answer)) (e .0)) (omega arith);
-      leaves = memory-is _ (e .1) (e .2) (ap (λ (t : Taken). t .counters) (e .0));
+      puts = puts-as (c .before .before .put-report .ensures) (report-text m f t (e .0)) (omega arith);
+      leaves = report-left m f t (e .0) (e .1) (e .2);
     }
 
 pub answer-report-spec : {M : Type 1} → statement M

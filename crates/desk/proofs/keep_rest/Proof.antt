@@ -5,7 +5,7 @@ use Rattle.desk.proofs.keep_rest.Tie as tie
 use borrow.Author.Needs.{needs}
 use native.Mathlib.Omega.{arith}
 use Prim.Native.Nat.{_+_, _-_, _≤_}
-use mathlib.Core.Path.{_≡_, refl, sym, _∙_}
+use mathlib.Core.Path.{refl}
 use lib.ListN.{length}
 use Rattle.desk.proofs.Moves.{Moved, moved-start, moved-more, moved-all}
 

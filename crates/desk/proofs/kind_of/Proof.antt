@@ -5,7 +5,6 @@ use Rattle.desk.proofs.kind_of.Statement.{statement}
 use Rattle.desk.proofs.kind_of.Tie as tie
 use mathlib.Core.Path.{sym, _∙_}
 use Rattle.frames.specs.Frames.{kind}
-use Rattle.desk.specs.Desk.{kindOf}
 use Rattle.desk.proofs.OtherKinds.{kind-report, kind-one, kind-all, kind-other}
 
 byte-at-requires : tie.Need-byte-at-requires

@@ -4,10 +4,9 @@ use borrow.Author.Needs.{needs}
 use Rattle.desk.proofs.other_refusal.Statement.{statement}
 use Rattle.desk.proofs.other_refusal.Tie as tie
 use native.Mathlib.Omega.{arith}
-use mathlib.Core.Path.{_≡_, sym, _∙_}
+use mathlib.Core.Path.{sym, _∙_}
 use Rattle.frames.proofs.Laws.{report-refused, lines-sound}
-use Rattle.desk.proofs.OtherKinds.{other-report, other-not-report}
-use Rattle.desk.proofs.OtherKinds.{other-some}
+use Rattle.desk.proofs.OtherKinds.{other-report, other-not-report, other-some}
 use denote.Ref.{now}
 
 check-report-requires : tie.Need-check-report-requires

@@ -5,13 +5,10 @@ use Rattle.desk.proofs.put_pairs.Tie as tie
 use borrow.Author.Needs.{needs}
 use native.Mathlib.Omega.{arith}
 use Prim.Native.Nat.{_+_, _-_, _*_, _≤_}
-use mathlib.Core.Path.{refl, ap, sym}
 use lib.ListN.{length, take}
-use lib.Seq.{take-all}
 use Rattle.desk.specs.Needs.{Puts}
 use Rattle.desk.specs.Text.{pairsText}
-use Rattle.desk.proofs.Texts.{puts-none, puts-then, puts-as, pairs-more}
-use Rattle.desk.proofs.Texts.{puts-length, pairs-all}
+use Rattle.desk.proofs.Texts.{puts-none, puts-then, puts-as, pairs-more, puts-length, pairs-all}
 
 abbrev Inv-loop : tie.InvT-loop
 Inv-loop out₀ at numbers counts end₀ i₀ out end i = (i ≤ length numbers) × Puts (22 * i) out₀ at (pairsText (take i numbers) (take i counts)) end out

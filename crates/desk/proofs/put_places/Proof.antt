@@ -5,13 +5,12 @@ use Rattle.desk.proofs.put_places.Tie as tie
 use borrow.Author.Needs.{needs}
 use native.Mathlib.Omega.{arith}
 use Prim.Native.Nat.{_+_, _-_, _*_, _≤_}
-use mathlib.Core.Path.{refl, ap, sym}
+use mathlib.Core.Path.{ap}
 use lib.ListN.{length, take}
 use lib.Seq.{take-all}
 use Rattle.desk.specs.Needs.{Puts}
 use Rattle.desk.specs.Text.{placesText}
-use Rattle.desk.proofs.Texts.{puts-none, puts-then, puts-as, places-more}
-use Rattle.desk.proofs.Texts.{puts-length}
+use Rattle.desk.proofs.Texts.{puts-none, puts-then, puts-as, places-more, puts-length}
 
 abbrev Inv-loop : tie.InvT-loop
 Inv-loop out₀ at numbers end₀ i₀ out end i = (i ≤ length numbers) × Puts (11 * i) out₀ at (placesText (take i numbers)) end out

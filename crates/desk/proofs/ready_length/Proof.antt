@@ -3,8 +3,7 @@
 use borrow.Author.Needs.{needs}
 use Rattle.desk.proofs.ready_length.Statement.{statement}
 use Rattle.desk.proofs.ready_length.Tie as tie
-use mathlib.Core.Path.{sym, _∙_}
-use native.Mathlib.Omega.{arith}
+use mathlib.Core.Path.{sym}
 use borrow.Author.Tests.{le-leb, lt-leb}
 use Rattle.desk.specs.Needs.{readyLength}
 

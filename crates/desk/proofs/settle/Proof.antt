@@ -5,14 +5,12 @@ use Rattle.desk.proofs.settle.Tie as tie
 use borrow.Author.Needs.{needs}
 use native.Mathlib.Omega.{arith}
 use Prim.Native.Nat.{_-_}
-use mathlib.Core.Path.{_≡_, refl, sym, ap, _∙_}
-use lib.ListN.{length, drop, length-drop}
+use mathlib.Core.Path.{_≡_, refl, sym, _∙_}
+use lib.ListN.{length}
 use lib.Seq.{length-take-le}
 use denote.Ref.{now}
 use Rattle.counters.specs.Counters.{memory}
-use Rattle.desk.proofs.Cutting.{ready-le}
-use Rattle.desk.proofs.Serving.{tail-is, Serving, serving-start, serving-length, serving-full, serving-waits, serving-more, serving-stops}
-use Rattle.desk.proofs.Serving.{ready-fits, ready-inside}
+use Rattle.desk.proofs.Serving.{tail-is, Serving, serving-start, serving-length, serving-full, serving-waits, serving-more, serving-stops, ready-fits, ready-inside}
 
 abbrev Inv-loop : tie.InvT-loop
 Inv-loop arena₀ table₀ input ended out₀ counters₀ taken₀ written₀ arena table out counters taken written =

@@ -5,7 +5,6 @@ use Rattle.desk.proofs.take_turn.Statement.{statement}
 use Rattle.desk.proofs.take_turn.Tie as tie
 use native.Mathlib.Omega.{arith}
 use mathlib.Core.Path.{sym}
-use lib.ListN.{length-take}
 use lib.Seq.{length-take-le}
 use denote.Ref.{now}
 use Rattle.desk.proofs.Turns.{turned}
