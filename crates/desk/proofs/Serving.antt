@@ -1,6 +1,6 @@
 -- Answering the frames at the front of the bytes at hand, one after the other: what holds between two of them, and at each end.
 -- Assumes nothing.
-use Prim.Native.Nat.{ℕ, _+_, _-_, _≤_}
+use Prim.Native.Nat.{ℕ, _+_, _-_, _≤_, _<_}
 use mathlib.Core.Path.{_≡_, refl, ap, sym, _∙_}
 use mathlib.Core.List.{List, [], _∷_, _++_, append-assoc}
 use mathlib.Core.Bool.{Bool, true, false, cond}
@@ -51,9 +51,9 @@ module _ (m₀ : Memory) (s : List ℕ) (ended : Bool) (out₀ : List ℕ) where
     serving-length = ap length (v .stored) ∙ length-sets out₀ 0 (v .text)
 
     -- the output is full
-    pub serving-full : (k : Counters) → Settles m₀ s ended out₀ (record { next = Settle; counters = k; taken = taken; written = written }) m out
+    pub serving-full : length out < written + longestLine → (k : Counters) → Settles m₀ s ended out₀ (record { next = Settle; counters = k; taken = taken; written = written }) m out
     unfolding linesAfter
-    serving-full k = record {
+    serving-full h k = record {
       text = v .text;
       stored = v .stored;
       written = v .count;
@@ -61,6 +61,7 @@ module _ (m₀ : Memory) (s : List ℕ) (ended : Bool) (out₀ : List ℕ) where
       taken = v .few;
       onward = v .onward;
       starved = λ e. let z : _≡_ {A = ℕ} 0 1 = cc in absurd (omega arith);
+      full = λ e. omega (arith, h, serving-length);
     }
 
     -- a frame has been answered
@@ -107,6 +108,7 @@ module _ (m₀ : Memory) (s : List ℕ) (ended : Bool) (out₀ : List ℕ) where
         taken = more-few;
         onward = λ t e. v .onward t e ∙ ap (λ (l : List ℕ). v .text ++ l) (more-lines t e) ∙ rw (o, append-assoc);
         starved = λ e. let z : _≡_ {A = ℕ} 0 1 = cc in absurd (omega arith);
+        full = λ e. let z : _≡_ {A = ℕ} 0 1 = cc in absurd (omega arith);
       }
 
 -- no frame can be judged now: the program reads more, or it ends
@@ -120,6 +122,7 @@ waits true m₀ s out₀ {m = m} {taken = taken} v z k = record {
   taken = v .few;
   onward = λ t e. v .onward t e ∙ rw (empty (drop taken s) (ready-ended (drop taken s) z), e, lines-none m);
   starved = λ e. let y : _≡_ {A = ℕ} 0 1 = cc in absurd (omega arith);
+  full = λ e. let y : _≡_ {A = ℕ} 0 1 = cc in absurd (omega arith);
 }
 waits false m₀ s out₀ {taken = taken} v z k = record {
   text = v .text;
@@ -129,6 +132,7 @@ waits false m₀ s out₀ {taken = taken} v z k = record {
   taken = v .few;
   onward = v .onward;
   starved = λ e. (refl, omega (arith, ready-starved (drop taken s) z, length-drop taken s));
+  full = λ e. let y : _≡_ {A = ℕ} 0 1 = cc in absurd (omega arith);
 }
 
 pub serving-waits : (m₀ : Memory) (s : List ℕ) (ended : Bool) (out₀ : List ℕ) {m : Memory} {taken written : ℕ} {out : List ℕ} (v : Serving m₀ s ended out₀ m taken written out) (rest : List ℕ) → rest ≡ drop taken s → readyLength ended rest ≡ 0 → (k : Counters) (next : Next) → next ≡ waitingFor ended → Settles m₀ s ended out₀ (record { next = next; counters = k; taken = taken; written = written }) m out

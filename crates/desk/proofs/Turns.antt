@@ -48,6 +48,7 @@ turned m input held ended out r left after input′ n h v e q =
       room = rw (q, length-sets) (omega arith);
       onward = λ t k. v .onward t k ∙ rw f;
       starved = λ s. (v .starved s .0, omega (arith, v .starved s .1, l));
+      full = v .full;
     }
 
 -- ---- turn after turn

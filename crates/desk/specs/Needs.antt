@@ -66,6 +66,8 @@ pub record Settles (m : Memory) (s : List ℕ) (ended : Bool) (out : List ℕ) (
   pub onward : (t : List ℕ) → Comes ended t → lines m (s ++ t) ≡ text ++ linesAfter (r .next) left (drop (r .taken) s ++ t)
   -- more is read only where the input has not ended and less than one frame is left
   pub starved : r .next ≡ Read → (ended ≡ false) × (length s - r .taken < longestFrame)
+  -- and the bytes at hand are left for another turn only where the output has no room for another line
+  pub full : r .next ≡ Settle → length out < r .written + longestLine
 
 -- the same, with what is left at the front of the input's buffer
 pub record Turns (m : Memory) (held : List ℕ) (ended : Bool) (out : List ℕ) (r : Turn) (left : Memory) (input : List ℕ) (after : List ℕ) : Type 0 where
@@ -76,6 +78,7 @@ pub record Turns (m : Memory) (held : List ℕ) (ended : Bool) (out : List ℕ) 
   pub room : r .held ≤ length input
   pub onward : (t : List ℕ) → Comes ended t → lines m (held ++ t) ≡ text ++ linesAfter (r .next) left (take (r .held) input ++ t)
   pub starved : r .next ≡ Read → (ended ≡ false) × (r .held < longestFrame)
+  pub full : r .next ≡ Settle → length out < r .written + longestLine
 
 -- what a read leaves of the buffer: the bytes held are as they were, and those that came fit behind them
 unfoldable pub InRoom : Piece → ℕ → ℕ → Type 0

@@ -337,7 +337,7 @@ fn waiting(ended: bool) -> Next
     if ended { Next::Stop } else { Next::Read }
 }
 
-// Answers the frames at the front of the bytes at hand, as long as the output has room for a line.
+// Answers the frames at the front of the bytes at hand, as long as the output has room for a line, which takes at most 356 bytes.
 fn settle(
     arena: &mut [u8],
     table: &mut [u32],

@@ -100,7 +100,7 @@ same-length-9 : tie.Need-same-length-9 Inv-loop μ-loop
 same-length-9 c = serving-length _ _ _ _ (c .before .loop .inv .2)
 
 returns-3 : tie.Need-returns-3 Inv-loop μ-loop
-returns-3 c = serving-full _ _ _ _ (c .before .loop .inv .2) _
+returns-3 c = serving-full _ _ _ _ (c .before .loop .inv .2) (c .loop-test .left) _
 
 pub settle-spec : {M : Type 1} → statement M
 settle-spec =
