@@ -1,8 +1,8 @@
--- Cutting the input into frames: the lines for an input are those for its first frame and then those for the rest, whatever comes behind.
+-- Cutting the input into frames: the frames of an input are its first one and then those of the rest, whatever comes behind.
 -- Assumes nothing.
 use Prim.Native.Nat.{ℕ, zero, suc, _+_, _-_, _≤_, _<_}
 use mathlib.Core.Path.{_≡_, refl, ap, sym, _∙_}
-use mathlib.Core.List.{List, [], _∷_, _++_, append-nil}
+use mathlib.Core.List.{List, [], _∷_, _++_, append-nil, append-assoc}
 use mathlib.Core.Bool.{Bool, true, false, cond}
 use native.Mathlib.Omega.{arith}
 use lib.Dec.{ltb}
@@ -12,7 +12,7 @@ use borrow.Author.Tests.{ltb-false, le-leb, lt-leb, eq-eqb, ne-eqb}
 use Rattle.basics.proofs.Cases.{by-lt, by-eq}
 use Rattle.frames.specs.Frames.{maxBody, bodyLength}
 use Rattle.counters.specs.Counters.{Memory}
-use Rattle.desk.specs.Desk.{answered, overlong, frameLength, frontFrame, frames, framesUpTo, linesOf, lines}
+use Rattle.desk.specs.Desk.{answered, overlong, frameLength, frontFrame, frames, framesUpTo, linesOf, memoryAfter}
 use Rattle.desk.specs.Needs.{longestFrame, readyLength, Comes}
 
 -- ---- the length of a frame
@@ -75,24 +75,6 @@ pub frames-none : frames [] ≡ []
 unfolding frames framesUpTo
 frames-none = refl
 
--- ---- the lines of an input
-
-stopped : (b : Bool) (m : Memory) (fs : List (List ℕ)) → linesOf m (cond b [] fs) ≡ cond b [] (linesOf m fs)
-unfolding linesOf
-stopped true m fs = refl
-stopped false m fs = refl
-
--- the first frame's line, and those for what is behind it
-pub lines-step : (m : Memory) (s : List ℕ) → 0 < length s → lines m s ≡ answered m (frontFrame s) .line ++ cond (overlong s) [] (lines (answered m (frontFrame s) .left) (drop (frameLength s) s))
-unfolding lines linesOf
-lines-step m s h =
-    let a = answered m (frontFrame s) in
-    rw (frames-step s h) (ap (λ (l : List ℕ). a .line ++ l) (stopped (overlong s) (a .left) (frames (drop (frameLength s) s))))
-
-pub lines-none : (m : Memory) → lines m [] ≡ []
-unfolding lines linesOf
-lines-none m = rw frames-none
-
 -- ---- a frame that can be judged now
 
 pub ready-le : (ended : Bool) (s : List ℕ) → readyLength ended s ≤ length s
@@ -141,9 +123,29 @@ unfolding readyLength Comes
 ready-cuts true s t e n = by-lt (length s) (frameLength s) (λ h. rw (lt-leb _ _ h, e) (cuts-last s h)) (λ h. rw (le-leb _ _ h) (cuts-whole s t h))
 ready-cuts false s t e n = by-lt (length s) (frameLength s) (λ h. absurd (n (rw (lt-leb _ _ h)))) (λ h. rw (le-leb _ _ h) (cuts-whole s t h))
 
--- so the lines are that frame's line and those for the rest
-pub ready-lines : (ended : Bool) (m : Memory) (s t : List ℕ) → Comes ended t → (readyLength ended s ≡ 0 → ⊥) → let n = readyLength ended s in lines m (s ++ t) ≡ answered m (take n s) .line ++ cond (overlong s) [] (lines (answered m (take n s) .left) (drop n s ++ t))
-ready-lines ended m s t e n =
+-- so the frames are that one and those of the rest
+pub ready-frames : (ended : Bool) (s t : List ℕ) → Comes ended t → (readyLength ended s ≡ 0 → ⊥) → let n = readyLength ended s in frames (s ++ t) ≡ take n s ∷ cond (overlong s) [] (frames (drop n s ++ t))
+ready-frames ended s t e n =
     let c = ready-cuts ended s t e n in
     let h : 0 < length (s ++ t) = rw length-append (omega (arith, ready-le ended s)) in
-    lines-step m (s ++ t) h ∙ rw (c .front, c .over, c .rest)
+    frames-step (s ++ t) h ∙ rw (c .front, c .over, c .rest)
+
+-- ---- frames one after the other: the lines and the memory of two lists of frames
+
+pub lines-append : (m : Memory) (fs gs : List (List ℕ)) → linesOf m (fs ++ gs) ≡ linesOf m fs ++ linesOf (memoryAfter m fs) gs
+unfolding linesOf memoryAfter
+lines-append m [] gs = refl
+lines-append m (f ∷ fs) gs = rw (lines-append (answered m f .left) fs gs, append-assoc)
+
+pub memory-append : (m : Memory) (fs gs : List (List ℕ)) → memoryAfter m (fs ++ gs) ≡ memoryAfter (memoryAfter m fs) gs
+unfolding memoryAfter
+memory-append m [] gs = refl
+memory-append m (f ∷ fs) gs = memory-append (answered m f .left) fs gs
+
+pub lines-one : (m : Memory) (f : List ℕ) → linesOf m (f ∷ []) ≡ answered m f .line
+unfolding linesOf
+lines-one m f = append-nil (answered m f .line)
+
+pub memory-one : (m : Memory) (f : List ℕ) → memoryAfter m (f ∷ []) ≡ answered m f .left
+unfolding memoryAfter
+memory-one m f = refl

@@ -1,7 +1,7 @@
 -- A turn of the program, and the program turn after turn: what was read and written so far, and what is still to come.
 -- Assumes nothing.
 use Prim.Native.Nat.{ℕ, _+_, _-_, _≤_}
-use mathlib.Core.Path.{_≡_, ap, sym, _∙_}
+use mathlib.Core.Path.{_≡_, refl, ap, sym, _∙_}
 use mathlib.Core.List.{List, [], _++_, append-nil, append-assoc}
 use mathlib.Core.Bool.{Bool, true, false}
 use native.Mathlib.Omega.{arith}
@@ -14,8 +14,9 @@ use Rattle.desk.specs.declared.Piece.{Piece}
 use Rattle.desk.specs.declared.Piece.the-variants.{Bytes}
 use Rattle.desk.specs.declared.Settled.{Settled}
 use Rattle.desk.specs.declared.Turn.{Turn}
-use Rattle.desk.specs.Desk.{arenaBytes, tableEntries, started, lines, deskOutput}
-use Rattle.desk.specs.Needs.{Settles, Turns, Reads, InRoom, Reached, Comes, linesAfter}
+use Rattle.desk.specs.Desk.{arenaBytes, tableEntries, started, frames, linesOf, memoryAfter, lines, deskOutput}
+use Rattle.desk.specs.Needs.{Settles, Turns, Reads, InRoom, Reached, Comes, framesAfter}
+use Rattle.desk.proofs.Cutting.{lines-append, memory-append}
 
 -- ---- what is left is moved to the front
 
@@ -41,12 +42,13 @@ turned m input held ended out r left after input′ n h v e q =
     let b : r .taken ≤ held = omega (arith, v .taken, l) in
     let f : take n input′ ≡ drop (r .taken) (take held input) = rw (e, q) (kept-front input held (r .taken) h b) in
     record {
-      text = v .text;
+      done = v .done;
+      cut = λ t k. v .cut t k ∙ rw f;
       stored = v .stored;
       written = v .written;
       inside = v .inside;
+      leaves = v .leaves;
       room = rw (q, length-sets) (omega arith);
-      onward = λ t k. v .onward t k ∙ rw f;
       starved = λ s. (v .starved s .0, omega (arith, v .starved s .1, l));
       full = v .full;
     }
@@ -55,27 +57,33 @@ turned m input held ended out r left after input′ n h v e q =
 
 -- before the first turn
 pub reached-start : (arena table : List ℕ) → arena ≡ replicate arenaBytes 0 → table ≡ replicate tableEntries 0 → (input : List ℕ) → Reached (memory arena table (record { used = 0; terms = 0; reports = 0 })) (take 0 input) false
-unfolding deskOutput started
-reached-start arena table p q input = record { read = []; wrote = []; so-far = λ t e. rw (p, q) }
+unfolding started memoryAfter
+reached-start arena table p q input = record { read = []; done = []; cut = λ t e. refl; leaves = rw (p, q) }
 
 module _ {m : Memory} {held : List ℕ} {ended : Bool} (v : Reached m held ended) where
   module _ {out : List ℕ} {r : Turn} {left : Memory} {input after : List ℕ} (w : Turns m held ended out r left input after) where
-    turn-lines : (t : List ℕ) → Comes ended t → deskOutput (v .read ++ t) ≡ v .wrote ++ w .text ++ linesAfter (r .next) left (take (r .held) input ++ t)
-    turn-lines t e = v .so-far t e ∙ rw (w .onward t e, append-assoc)
+    abbrev both : List (List ℕ)
+    both = v .done ++ w .done
 
-    -- the lines of a turn are written
+    turn-cut : (t : List ℕ) → Comes ended t → frames (v .read ++ t) ≡ both ++ framesAfter (r .next) (take (r .held) input ++ t)
+    turn-cut t e = v .cut t e ∙ rw (w .cut t e, append-assoc)
+
+    turn-leaves : left ≡ memoryAfter started both
+    turn-leaves = w .leaves ∙ rw (v .leaves, memory-append)
+
+    -- the frames of a turn are answered
     pub reached-settle : r .next ≡ Settle → Reached left (take (r .held) input) ended
-    unfolding linesAfter
-    reached-settle s = record { read = v .read; wrote = v .wrote ++ w .text; so-far = λ t e. turn-lines t e ∙ rw s }
+    unfolding framesAfter
+    reached-settle s = record { read = v .read; done = both; cut = λ t e. turn-cut t e ∙ rw s; leaves = turn-leaves }
 
     pub reached-starved : r .next ≡ Read → Reached left (take (r .held) input) ended
-    unfolding linesAfter
-    reached-starved s = record { read = v .read; wrote = v .wrote ++ w .text; so-far = λ t e. turn-lines t e ∙ rw s }
+    unfolding framesAfter
+    reached-starved s = record { read = v .read; done = both; cut = λ t e. turn-cut t e ∙ rw s; leaves = turn-leaves }
 
-    -- the program ends: all is written
-    pub reached-stop : r .next ≡ Stop → (t : List ℕ) → Comes ended t → deskOutput (v .read ++ t) ≡ v .wrote ++ w .text
-    unfolding linesAfter
-    reached-stop s t e = turn-lines t e ∙ rw (s, append-nil)
+    -- the program ends: the lines of all turns are the whole output, whatever comes that was not read
+    pub reached-stop : r .next ≡ Stop → (t : List ℕ) → Comes ended t → deskOutput (v .read ++ t) ≡ linesOf started (v .done) ++ linesOf m (w .done)
+    unfolding deskOutput lines framesAfter
+    reached-stop s t e = rw (turn-cut t e, s, append-nil, lines-append, ← (v .leaves))
 
 module _ {input after : List ℕ} {held : ℕ} {r : Piece} (w : Reads input held r after) where
   -- more bytes have been read behind those that are held
@@ -85,14 +93,15 @@ module _ {input after : List ℕ} {held : ℕ} {r : Piece} (w : Reads input held
       let more = take n (drop held after) in
       rw (e, take-add, w .kept) (record {
         read = v .read ++ more;
-        wrote = v .wrote;
-        so-far = λ t c. rw (append-assoc (v .read) more t, append-assoc (take held input) more t) (v .so-far (more ++ t) (rw e tt));
+        done = v .done;
+        cut = λ t c. rw (append-assoc (v .read) more t, append-assoc (take held input) more t) (v .cut (more ++ t) (rw e tt));
+        leaves = v .leaves;
       })
 
   -- the input has ended
   pub reached-end : {m : Memory} {ended : Bool} → ended ≡ false → Reached m (take held input) ended → Reached m (take held after) true
   unfolding Comes
-  reached-end e v = rw (w .kept) (record { read = v .read; wrote = v .wrote; so-far = λ t c. v .so-far t (rw e tt) })
+  reached-end e v = rw (w .kept) (record { read = v .read; done = v .done; cut = λ t c. v .cut t (rw e tt); leaves = v .leaves })
 
   -- what a read gave lies in the buffer
   pub read-inside : (n : ℕ) → r ≡ Bytes n → held + n ≤ length after

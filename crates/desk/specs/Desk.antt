@@ -86,6 +86,10 @@ unfoldable pub linesOf : Memory → List (List ℕ) → List ℕ
 linesOf m [] = []
 linesOf m (f ∷ fs) = answered m f .line ++ linesOf (answered m f .left) fs
 
+unfoldable pub memoryAfter : Memory → List (List ℕ) → Memory
+memoryAfter m [] = m
+memoryAfter m (f ∷ fs) = memoryAfter (answered m f .left) fs
+
 unfoldable pub lines : Memory → List ℕ → List ℕ
 lines m s = linesOf m (frames s)
 

@@ -14,7 +14,7 @@ use Rattle.desk.specs.declared.Piece.{Piece}
 use Rattle.desk.specs.declared.Piece.the-variants.{Bytes, End, Failed}
 use Rattle.desk.specs.declared.Settled.{Settled}
 use Rattle.desk.specs.declared.Turn.{Turn}
-use Rattle.desk.specs.Desk.{Answered, frameLength, lines, deskOutput}
+use Rattle.desk.specs.Desk.{started, Answered, frameLength, frames, linesOf, memoryAfter}
 
 -- a text stands in the buffer from `at` on, all other bytes are as they were, and `end` is the place behind it, at most `most` bytes on
 pub record Puts (most : ℕ) (out : List ℕ) (at : ℕ) (text : List ℕ) (end : ℕ) (after : List ℕ) : Type 0 where
@@ -49,21 +49,22 @@ unfoldable pub Comes : Bool → List ℕ → Type 0
 Comes true t = t ≡ []
 Comes false t = Unit {0}
 
--- the lines that are still to be written; a program that has stopped writes none
-unfoldable pub linesAfter : Next → Memory → List ℕ → List ℕ
-linesAfter Settle m s = lines m s
-linesAfter Read m s = lines m s
-linesAfter Stop m s = []
+-- the frames that are still to be answered; a program that has stopped answers none
+unfoldable pub framesAfter : Next → List ℕ → List (List ℕ)
+framesAfter Settle s = frames s
+framesAfter Read s = frames s
+framesAfter Stop s = []
 
--- some frames at the front of the bytes at hand have been answered. Whatever comes behind those bytes, the program's lines are the ones in the buffer
--- and then those for what is left
+-- some frames at the front of the bytes at hand have been answered: whatever comes behind those bytes, the frames of it all are these and then those
+-- of what is left. Their lines stand at the front of the output, all else in it is as it was, and the memory is as they leave it
 pub record Settles (m : Memory) (s : List ℕ) (ended : Bool) (out : List ℕ) (r : Settled) (left : Memory) (after : List ℕ) : Type 0 where
-  pub text : List ℕ
-  pub stored : after ≡ sets out 0 text
-  pub written : r .written ≡ length text
+  pub done : List (List ℕ)
+  pub cut : (t : List ℕ) → Comes ended t → frames (s ++ t) ≡ done ++ framesAfter (r .next) (drop (r .taken) s ++ t)
+  pub stored : after ≡ sets out 0 (linesOf m done)
+  pub written : r .written ≡ length (linesOf m done)
   pub inside : r .written ≤ length out
+  pub leaves : left ≡ memoryAfter m done
   pub taken : r .taken ≤ length s
-  pub onward : (t : List ℕ) → Comes ended t → lines m (s ++ t) ≡ text ++ linesAfter (r .next) left (drop (r .taken) s ++ t)
   -- more is read only where the input has not ended and less than one frame is left
   pub starved : r .next ≡ Read → (ended ≡ false) × (length s - r .taken < longestFrame)
   -- and the bytes at hand are left for another turn only where the output has no room for another line
@@ -71,12 +72,13 @@ pub record Settles (m : Memory) (s : List ℕ) (ended : Bool) (out : List ℕ) (
 
 -- the same, with what is left at the front of the input's buffer
 pub record Turns (m : Memory) (held : List ℕ) (ended : Bool) (out : List ℕ) (r : Turn) (left : Memory) (input : List ℕ) (after : List ℕ) : Type 0 where
-  pub text : List ℕ
-  pub stored : after ≡ sets out 0 text
-  pub written : r .written ≡ length text
+  pub done : List (List ℕ)
+  pub cut : (t : List ℕ) → Comes ended t → frames (held ++ t) ≡ done ++ framesAfter (r .next) (take (r .held) input ++ t)
+  pub stored : after ≡ sets out 0 (linesOf m done)
+  pub written : r .written ≡ length (linesOf m done)
   pub inside : r .written ≤ length out
+  pub leaves : left ≡ memoryAfter m done
   pub room : r .held ≤ length input
-  pub onward : (t : List ℕ) → Comes ended t → lines m (held ++ t) ≡ text ++ linesAfter (r .next) left (take (r .held) input ++ t)
   pub starved : r .next ≡ Read → (ended ≡ false) × (r .held < longestFrame)
   pub full : r .next ≡ Settle → length out < r .written + longestLine
 
@@ -90,9 +92,10 @@ pub record Reads (input : List ℕ) (held : ℕ) (r : Piece) (after : List ℕ) 
   pub kept : take held after ≡ take held input
   pub room : InRoom r held (length after)
 
--- the program between two turns: it has read `read` and written `wrote`, and whatever comes, the lines for what it holds and what comes are still to
--- be written
+-- the program between two turns: it has read `read` and answered the frames `done`, and so its memory is as they leave it; whatever comes, the frames of
+-- it all are these and then those of what is held and what comes
 pub record Reached (m : Memory) (held : List ℕ) (ended : Bool) : Type 0 where
   pub read : List ℕ
-  pub wrote : List ℕ
-  pub so-far : (t : List ℕ) → Comes ended t → deskOutput (read ++ t) ≡ wrote ++ lines m (held ++ t)
+  pub done : List (List ℕ)
+  pub cut : (t : List ℕ) → Comes ended t → frames (read ++ t) ≡ done ++ frames (held ++ t)
+  pub leaves : m ≡ memoryAfter started done
