@@ -59,7 +59,7 @@ take-turn-requires : tie.Need-take-turn-requires Inv-loop μ-loop
 take-turn-requires c κs = c .before .before .before .before .before .loop .inv .room
 
 array-share-prefix-out : tie.Need-array-share-prefix-out Inv-loop μ-loop
-array-share-prefix-out c = omega (arith, c .before .before .before .before .take-turn .ensures .inside, c .before .before .before .before .take-turn .kept .1 .1 .1 .1 .1 .1 .0)
+array-share-prefix-out c = let t = c .before .before .before .before .take-turn in omega (arith, t .ensures .inside, t .kept .1 .1 .1 .1 .1 .1 .0)
 
 slice-aggregate-print : tie.Need-slice-aggregate-print Inv-loop μ-loop
 slice-aggregate-print c = sym (length-take-le _ _ (array-share-prefix-out (c .before)))
@@ -74,7 +74,11 @@ enum-told : tie.Need-enum-told Inv-loop μ-loop
 enum-told c = search needs
 
 returns-2 : tie.Need-returns-2 Inv-loop μ-loop
-returns-2 c = let written = reached-stop (c .before .before .before .before .before .before .before .before .before .before .before .before .before .before .before .before .loop .inv .reached) (c .before .before .before .before .before .before .before .before .before .before .take-turn .ensures) (c .enum-told .given .1) in tt
+returns-2 c =
+    let t = c .before .before .before .before .before .before .before .before .before .before .take-turn in
+    let l = c .before .before .before .before .before .before .before .before .before .before .before .before .before .before .before .before .loop .inv in
+    let written = reached-stop (l .reached) (t .ensures) (c .enum-told .given .1) in
+    tt
 
 enum-told-2 : tie.Need-enum-told-2 Inv-loop μ-loop
 enum-told-2 c = search needs
@@ -84,45 +88,59 @@ loop-less c = search needs
 
 loop-again : tie.Need-loop-again Inv-loop μ-loop
 loop-again c =
+    let t = c .before .before .before .before .before .before .before .before .before .before .take-turn in
+    let l = c .before .before .before .before .before .before .before .before .before .before .before .before .before .before .before .before .loop .inv in
     record {
-      arena-size = c .before .before .before .before .before .before .before .before .before .before .take-turn .kept .0 ∙ c .before .before .before .before .before .before .before .before .before .before .before .before .before .before .before .before .loop .inv .arena-size;
-      table-size = c .before .before .before .before .before .before .before .before .before .before .take-turn .kept .1 .0 ∙ c .before .before .before .before .before .before .before .before .before .before .before .before .before .before .before .before .loop .inv .table-size;
-      input-size = c .before .before .before .before .before .before .before .before .before .before .take-turn .kept .1 .1 .1 .0 ∙ c .before .before .before .before .before .before .before .before .before .before .before .before .before .before .before .before .loop .inv .input-size;
-      out-size = c .before .before .before .before .before .before .before .before .before .before .take-turn .kept .1 .1 .1 .1 .1 .1 .0 ∙ c .before .before .before .before .before .before .before .before .before .before .before .before .before .before .before .before .loop .inv .out-size;
-      room = c .before .before .before .before .before .before .before .before .before .before .take-turn .ensures .room;
-      reached = reached-settle (c .before .before .before .before .before .before .before .before .before .before .before .before .before .before .before .before .loop .inv .reached) (c .before .before .before .before .before .before .before .before .before .before .take-turn .ensures) (c .enum-told2 .given .1);
+      arena-size = t .kept .0 ∙ l .arena-size;
+      table-size = t .kept .1 .0 ∙ l .table-size;
+      input-size = t .kept .1 .1 .1 .0 ∙ l .input-size;
+      out-size = t .kept .1 .1 .1 .1 .1 .1 .0 ∙ l .out-size;
+      room = t .ensures .room;
+      reached = reached-settle (l .reached) (t .ensures) (c .enum-told2 .given .1);
     }
 
 enum-told-3 : tie.Need-enum-told-3 Inv-loop μ-loop
 enum-told-3 c = search needs
 
 slice-aggregate-read-more : tie.Need-slice-aggregate-read-more Inv-loop μ-loop
-slice-aggregate-read-more c = sym (c .before .before .before .before .before .before .before .before .before .before .before .take-turn .kept .1 .1 .1 .0 ∙ c .before .before .before .before .before .before .before .before .before .before .before .before .before .before .before .before .before .loop .inv .input-size)
+slice-aggregate-read-more c =
+    let t = c .before .before .before .before .before .before .before .before .before .before .before .take-turn in
+    let l = c .before .before .before .before .before .before .before .before .before .before .before .before .before .before .before .before .before .loop .inv in
+    sym (t .kept .1 .1 .1 .0 ∙ l .input-size)
 
 read-more-requires : tie.Need-read-more-requires Inv-loop μ-loop
-read-more-requires c κs = omega (arith, c .before .before .before .before .before .before .before .before .before .before .before .take-turn .ensures .starved (c .before .enum-told3 .given .1) .1, c .before .before .before .before .before .before .before .before .before .before .before .take-turn .kept .1 .1 .1 .0 ∙ c .before .before .before .before .before .before .before .before .before .before .before .before .before .before .before .before .before .loop .inv .input-size)
+read-more-requires c κs =
+    let t = c .before .before .before .before .before .before .before .before .before .before .before .take-turn in
+    let l = c .before .before .before .before .before .before .before .before .before .before .before .before .before .before .before .before .before .loop .inv in
+    omega (arith, t .ensures .starved (c .before .enum-told3 .given .1) .1, t .kept .1 .1 .1 .0 ∙ l .input-size)
 
 enum-known-n : tie.Need-enum-known-n Inv-loop μ-loop
 enum-known-n c = search needs
 
 add-held : tie.Need-add-held Inv-loop μ-loop
-add-held c = omega (arith, read-inside (c .before .before .before .before .read-more .ensures) _ (c .before .n .given .1), c .before .before .before .before .read-more .kept .0, c .before .before .before .before .before .before .before .before .before .before .before .before .before .before .before .before .take-turn .kept .1 .1 .1 .0, c .before .before .before .before .before .before .before .before .before .before .before .before .before .before .before .before .before .before .before .before .before .before .loop .inv .input-size)
+add-held c =
+    let t = c .before .before .before .before .before .before .before .before .before .before .before .before .before .before .before .before .take-turn in
+    let l = c .before .before .before .before .before .before .before .before .before .before .before .before .before .before .before .before .before .before .before .before .before .before .loop .inv in
+    let m = c .before .before .before .before .read-more in
+    omega (arith, read-inside (m .ensures) _ (c .before .n .given .1), m .kept .0, t .kept .1 .1 .1 .0, l .input-size)
 
 loop-less-2 : tie.Need-loop-less-2 Inv-loop μ-loop
 loop-less-2 c = search needs
 
 loop-again-2 : tie.Need-loop-again-2 Inv-loop μ-loop
 loop-again-2 c =
+    let t = c .before .before .before .before .before .before .before .before .before .before .before .before .before .before .before .before .take-turn in
+    let l = c .before .before .before .before .before .before .before .before .before .before .before .before .before .before .before .before .before .before .before .before .before .before .loop .inv in
+    let m = c .before .before .before .before .read-more in
     let s = c .before .before .before .before .before .before .enum-told3 .given .1 in
-    let w = c .before .before .before .before .before .before .before .before .before .before .before .before .before .before .before .before .take-turn .ensures in
-    let v = c .before .before .before .before .read-more .ensures in
+    let n = c .before .n .given in
     record {
-      arena-size = c .before .before .before .before .before .before .before .before .before .before .before .before .before .before .before .before .take-turn .kept .0 ∙ c .before .before .before .before .before .before .before .before .before .before .before .before .before .before .before .before .before .before .before .before .before .before .loop .inv .arena-size;
-      table-size = c .before .before .before .before .before .before .before .before .before .before .before .before .before .before .before .before .take-turn .kept .1 .0 ∙ c .before .before .before .before .before .before .before .before .before .before .before .before .before .before .before .before .before .before .before .before .before .before .loop .inv .table-size;
-      input-size = c .before .before .before .before .read-more .kept .0 ∙ c .before .before .before .before .before .before .before .before .before .before .before .before .before .before .before .before .take-turn .kept .1 .1 .1 .0 ∙ c .before .before .before .before .before .before .before .before .before .before .before .before .before .before .before .before .before .before .before .before .before .before .loop .inv .input-size;
-      out-size = c .before .before .before .before .before .before .before .before .before .before .before .before .before .before .before .before .take-turn .kept .1 .1 .1 .1 .1 .1 .0 ∙ c .before .before .before .before .before .before .before .before .before .before .before .before .before .before .before .before .before .before .before .before .before .before .loop .inv .out-size;
-      room = read-inside v _ (c .before .n .given .1);
-      reached = reached-read v (c .before .n .given .0 .0) (w .starved s .0) (reached-starved (c .before .before .before .before .before .before .before .before .before .before .before .before .before .before .before .before .before .before .before .before .before .before .loop .inv .reached) w s);
+      arena-size = t .kept .0 ∙ l .arena-size;
+      table-size = t .kept .1 .0 ∙ l .table-size;
+      input-size = m .kept .0 ∙ t .kept .1 .1 .1 .0 ∙ l .input-size;
+      out-size = t .kept .1 .1 .1 .1 .1 .1 .0 ∙ l .out-size;
+      room = read-inside (m .ensures) _ (n .1);
+      reached = reached-read (m .ensures) (n .0 .0) (t .ensures .starved s .0) (reached-starved (l .reached) (t .ensures) s);
     }
 
 enum-told-4 : tie.Need-enum-told-4 Inv-loop μ-loop
@@ -133,16 +151,17 @@ loop-less-3 c = search needs
 
 loop-again-3 : tie.Need-loop-again-3 Inv-loop μ-loop
 loop-again-3 c =
+    let t = c .before .before .before .before .before .before .before .before .before .before .before .before .before .before .before .take-turn in
+    let l = c .before .before .before .before .before .before .before .before .before .before .before .before .before .before .before .before .before .before .before .before .before .loop .inv in
+    let m = c .before .before .before .read-more in
     let s = c .before .before .before .before .before .enum-told3 .given .1 in
-    let w = c .before .before .before .before .before .before .before .before .before .before .before .before .before .before .before .take-turn .ensures in
-    let v = c .before .before .before .read-more .ensures in
     record {
-      arena-size = c .before .before .before .before .before .before .before .before .before .before .before .before .before .before .before .take-turn .kept .0 ∙ c .before .before .before .before .before .before .before .before .before .before .before .before .before .before .before .before .before .before .before .before .before .loop .inv .arena-size;
-      table-size = c .before .before .before .before .before .before .before .before .before .before .before .before .before .before .before .take-turn .kept .1 .0 ∙ c .before .before .before .before .before .before .before .before .before .before .before .before .before .before .before .before .before .before .before .before .before .loop .inv .table-size;
-      input-size = c .before .before .before .read-more .kept .0 ∙ c .before .before .before .before .before .before .before .before .before .before .before .before .before .before .before .take-turn .kept .1 .1 .1 .0 ∙ c .before .before .before .before .before .before .before .before .before .before .before .before .before .before .before .before .before .before .before .before .before .loop .inv .input-size;
-      out-size = c .before .before .before .before .before .before .before .before .before .before .before .before .before .before .before .take-turn .kept .1 .1 .1 .1 .1 .1 .0 ∙ c .before .before .before .before .before .before .before .before .before .before .before .before .before .before .before .before .before .before .before .before .before .loop .inv .out-size;
-      room = omega (arith, w .room, c .before .before .before .read-more .kept .0);
-      reached = reached-end v (w .starved s .0) (reached-starved (c .before .before .before .before .before .before .before .before .before .before .before .before .before .before .before .before .before .before .before .before .before .loop .inv .reached) w s);
+      arena-size = t .kept .0 ∙ l .arena-size;
+      table-size = t .kept .1 .0 ∙ l .table-size;
+      input-size = m .kept .0 ∙ t .kept .1 .1 .1 .0 ∙ l .input-size;
+      out-size = t .kept .1 .1 .1 .1 .1 .1 .0 ∙ l .out-size;
+      room = omega (arith, t .ensures .room, m .kept .0);
+      reached = reached-end (m .ensures) (t .ensures .starved s .0) (reached-starved (l .reached) (t .ensures) s);
     }
 
 enum-told-5 : tie.Need-enum-told-5 Inv-loop μ-loop

@@ -53,8 +53,9 @@ same-length-3 c = serving-length _ _ _ _ (c .before .before .before .before .bef
 
 returns : tie.Need-returns Inv-loop μ-loop
 returns c =
-    let l = c .before .before .before .before .before .loop in
-    serving-waits _ _ _ _ (l .inv .2) _ (tail-is (l .taken) (now (c .before .before .before .before .before .before .before .before .before .before .args .input))) (sym (c .before .before .ready-length .ensures) ∙ c .before .if1 .taken) _ _ (c .waiting .ensures)
+    let l = c .before .before .before .before .before in
+    serving-waits _ _ _ _ (l .loop .inv .2) _ (tail-is (l .loop .taken) (now (l .before .before .before .before .before .args .input)))
+    (sym (c .before .before .ready-length .ensures) ∙ c .before .if1 .taken) _ _ (c .waiting .ensures)
 
 slice-aggregate-answer-frame : tie.Need-slice-aggregate-answer-frame Inv-loop μ-loop
 slice-aggregate-answer-frame c = sym (length-take-le _ _ (ready-fits _ _ _ (c .before .before .before .before .ready-length .ensures)))
@@ -63,32 +64,64 @@ answer-frame-requires : tie.Need-answer-frame-requires Inv-loop μ-loop
 answer-frame-requires c κs = search needs
 
 add-taken : tie.Need-add-taken Inv-loop μ-loop
-add-taken c = omega (arith, ready-inside (c .before .before .before .before .before .before .before .before .before .before .before .before .before .before .before .before .before .before .before .before .before .args .ended) (now (c .before .before .before .before .before .before .before .before .before .before .before .before .before .before .before .before .before .before .before .before .before .args .input)) (c .before .before .before .before .before .before .before .before .before .before .before .before .before .before .before .before .loop .taken) (c .before .before .before .before .before .before .before .before .before .before .before .before .before .ready-length .result) (c .before .before .before .before .before .before .before .before .before .before .before .before .before .before .before .before .loop .inv .2 .few) (c .before .before .before .before .before .before .before .before .before .before .before .before .before .ready-length .ensures))
+add-taken c =
+    let q = c .before .before .before .before .before .before .before .before .before .before .before .before .before in
+    let l = q .before .before .before in
+    let s = l .before .before .before .before .before in
+    omega (arith, ready-inside (s .args .ended) (now (s .args .input)) (l .loop .taken) (q .ready-length .result) (l .loop .inv .2 .few) (q .ready-length .ensures))
 
 is-overlong-requires : tie.Need-is-overlong-requires Inv-loop μ-loop
 is-overlong-requires c κs = search needs
 
 same-length-4 : tie.Need-same-length-4 Inv-loop μ-loop
-same-length-4 c = c .before .before .before .before .before .before .before .before .before .answer-frame .kept .0 ∙ c .before .before .before .before .before .before .before .before .before .before .before .before .before .before .before .before .before .before .loop .inv .0
+same-length-4 c =
+    let a = c .before .before .before .before .before .before .before .before .before in
+    let q = a .before .before .before .before .before .before in
+    let l = q .before .before .before in
+    a .answer-frame .kept .0 ∙ l .loop .inv .0
 
 same-length-5 : tie.Need-same-length-5 Inv-loop μ-loop
-same-length-5 c = c .before .before .before .before .before .before .before .before .before .answer-frame .kept .1 .0 ∙ c .before .before .before .before .before .before .before .before .before .before .before .before .before .before .before .before .before .before .loop .inv .1
+same-length-5 c =
+    let a = c .before .before .before .before .before .before .before .before .before in
+    let q = a .before .before .before .before .before .before in
+    let l = q .before .before .before in
+    a .answer-frame .kept .1 .0 ∙ l .loop .inv .1
 
 same-length-6 : tie.Need-same-length-6 Inv-loop μ-loop
-same-length-6 c = c .before .before .before .before .before .before .before .before .before .answer-frame .kept .1 .1 .1 .1 .0 ∙ serving-length _ _ _ _ (c .before .before .before .before .before .before .before .before .before .before .before .before .before .before .before .before .before .before .loop .inv .2)
+same-length-6 c =
+    let a = c .before .before .before .before .before .before .before .before .before in
+    let q = a .before .before .before .before .before .before in
+    let l = q .before .before .before in
+    a .answer-frame .kept .1 .1 .1 .1 .0 ∙ serving-length _ _ _ _ (l .loop .inv .2)
 
 returns-2 : tie.Need-returns-2 Inv-loop μ-loop
 returns-2 c =
-    let l = c .before .before .before .before .before .before .before .before .before .before .before .before .before .before .before .before .before .before .loop in
-    serving-stops _ _ _ _ (l .inv .2) _ (tail-is (l .taken) (now (c .before .before .before .before .before .before .before .before .before .before .before .before .before .before .before .before .before .before .before .before .before .before .before .args .input))) _ (c .before .before .before .before .before .before .before .before .before .before .before .before .before .before .before .ready-length .ensures) (c .before .before .before .before .before .before .before .before .before .before .before .before .before .before .if1 .left) (c .before .before .before .before .before .before .before .before .before .before .before .before .before .before .before .before .before .loop-test .taken) _ _ _ (c .before .before .before .before .before .before .before .before .before .answer-frame .ensures) (sym (c .before .is-overlong .ensures) ∙ c .if2 .taken) _
+    let a = c .before .before .before .before .before .before .before .before .before in
+    let q = a .before .before .before .before .before .before in
+    let l = q .before .before .before in
+    let s = l .before .before .before .before .before in
+    serving-stops _ _ _ _ (l .loop .inv .2) _ (tail-is (l .loop .taken) (now (s .args .input))) _ (q .ready-length .ensures) (a .before .before .before .before .before .if1 .left) (q .before .before .loop-test .taken)
+    _ _ _ (a .answer-frame .ensures) (sym (c .before .is-overlong .ensures) ∙ c .if2 .taken) _
 
 loop-less : tie.Need-loop-less Inv-loop μ-loop
-loop-less c = omega (arith, ready-inside (c .before .before .before .before .before .before .before .before .before .before .before .before .before .before .before .before .before .before .before .before .before .before .before .args .ended) (now (c .before .before .before .before .before .before .before .before .before .before .before .before .before .before .before .before .before .before .before .before .before .before .before .args .input)) (c .before .before .before .before .before .before .before .before .before .before .before .before .before .before .before .before .before .before .loop .taken) (c .before .before .before .before .before .before .before .before .before .before .before .before .before .before .before .ready-length .result) (c .before .before .before .before .before .before .before .before .before .before .before .before .before .before .before .before .before .before .loop .inv .2 .few) (c .before .before .before .before .before .before .before .before .before .before .before .before .before .before .before .ready-length .ensures), c .before .before .before .before .before .before .before .before .before .before .before .before .before .before .if1 .left)
+loop-less c =
+    let a = c .before .before .before .before .before .before .before .before .before in
+    let q = a .before .before .before .before .before .before in
+    let l = q .before .before .before in
+    let s = l .before .before .before .before .before in
+    omega (arith, ready-inside (s .args .ended) (now (s .args .input)) (l .loop .taken) (q .ready-length .result) (l .loop .inv .2 .few) (q .ready-length .ensures), a .before .before .before .before .before .if1 .left)
 
 loop-again : tie.Need-loop-again Inv-loop μ-loop
 loop-again c =
-    let l = c .before .before .before .before .before .before .before .before .before .before .before .before .before .before .before .before .before .before .loop in
-    (c .before .before .before .before .before .before .before .before .before .answer-frame .kept .0 ∙ c .before .before .before .before .before .before .before .before .before .before .before .before .before .before .before .before .before .before .loop .inv .0, c .before .before .before .before .before .before .before .before .before .answer-frame .kept .1 .0 ∙ c .before .before .before .before .before .before .before .before .before .before .before .before .before .before .before .before .before .before .loop .inv .1, serving-more _ _ _ _ (l .inv .2) _ (tail-is (l .taken) (now (c .before .before .before .before .before .before .before .before .before .before .before .before .before .before .before .before .before .before .before .before .before .before .before .args .input))) _ (c .before .before .before .before .before .before .before .before .before .before .before .before .before .before .before .ready-length .ensures) (c .before .before .before .before .before .before .before .before .before .before .before .before .before .before .if1 .left) (c .before .before .before .before .before .before .before .before .before .before .before .before .before .before .before .before .before .loop-test .taken) _ _ _ (c .before .before .before .before .before .before .before .before .before .answer-frame .ensures) (sym (c .before .is-overlong .ensures) ∙ c .if2 .left))
+    let a = c .before .before .before .before .before .before .before .before .before in
+    let q = a .before .before .before .before .before .before in
+    let l = q .before .before .before in
+    let s = l .before .before .before .before .before in (
+      a .answer-frame .kept .0 ∙ l .loop .inv .0,
+      a .answer-frame .kept .1 .0 ∙ l .loop .inv .1,
+      serving-more _ _ _ _ (l .loop .inv .2) _ (tail-is (l .loop .taken) (now (s .args .input))) _ (q .ready-length .ensures) (a .before .before .before .before .before .if1 .left) (q .before .before .loop-test .taken)
+          _ _ _ (a .answer-frame .ensures) (sym (c .before .is-overlong .ensures) ∙ c .if2 .left),
+    )
 
 same-length-7 : tie.Need-same-length-7 Inv-loop μ-loop
 same-length-7 c = c .before .loop .inv .0
