@@ -1,0 +1,4 @@
+pub mod Text
+pub mod Desk
+pub mod Needs
+pub mod Claims
