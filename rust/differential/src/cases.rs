@@ -7,9 +7,10 @@ use std::fmt;
 use reference::drawn_calls::{DrawnCall, Source};
 use reference::draws::Draws;
 use reference::ledger::Ledger;
+use report_index::calls::Calls;
 
 use crate::memory::Memory;
-use crate::sides::{bring_to_ledger, bring_to_reference, Library, Outcome};
+use crate::sides::{bring_to_ledger, bring_to_reference, Outcome, Tested};
 use crate::tally::{Sizes, Tally};
 
 /// The kinds of cases.
@@ -85,14 +86,19 @@ impl fmt::Display for Failure {
     }
 }
 
-/// Runs the cases from `first_seed` on whose kind is asked for, until they made `calls` calls. At
-/// least one case is run, and each is run to its end.
-pub fn run(first_seed: u64, calls: u64, asked: fn(Kind) -> bool) -> Result<Tally, Failure> {
+/// Brings the cases from `first_seed` on whose kind is asked for to the tested calls, until they
+/// made `number` calls. At least one case is run, and each is run to its end.
+pub fn run(
+    tested: Calls,
+    first_seed: u64,
+    number: u64,
+    asked: fn(Kind) -> bool,
+) -> Result<Tally, Failure> {
     let mut tally = Tally::default();
     let mut seed = first_seed;
-    while tally.cases == 0 || tally.calls < calls {
+    while tally.cases == 0 || tally.calls < number {
         if asked(Kind::of_seed(seed)) {
-            run_case(seed, &mut tally)?;
+            run_case(tested, seed, &mut tally)?;
         }
         seed = seed.wrapping_add(1);
     }
@@ -100,10 +106,10 @@ pub fn run(first_seed: u64, calls: u64, asked: fn(Kind) -> bool) -> Result<Tally
 }
 
 /// Runs the case of one seed.
-fn run_case(seed: u64, tally: &mut Tally) -> Result<(), Failure> {
+fn run_case(tested: Calls, seed: u64, tally: &mut Tally) -> Result<(), Failure> {
     let calls_before = tally.calls;
     let kind = Kind::of_seed(seed);
-    let mut case = Case::new(kind, Draws::new(scrambled(scrambled(seed))), tally);
+    let mut case = Case::new(tested, kind, Draws::new(scrambled(scrambled(seed))), tally);
     let result = match kind {
         Kind::Grown => case.calls(80),
         Kind::Crowded => case.calls(150),
@@ -123,7 +129,7 @@ fn run_case(seed: u64, tally: &mut Tally) -> Result<(), Failure> {
 
 /// The two or three sides of a case, and what its calls are drawn from.
 struct Case<'a> {
-    library: Library,
+    tested: Tested,
     reference: Memory,
     ledger: Option<Ledger>,
     source: Source,
@@ -132,7 +138,7 @@ struct Case<'a> {
 
 impl Case<'_> {
     /// Memory and terms for a case of this kind. Nothing is started yet.
-    fn new(kind: Kind, draws: Draws, tally: &mut Tally) -> Case<'_> {
+    fn new(tested: Calls, kind: Kind, draws: Draws, tally: &mut Tally) -> Case<'_> {
         let mut source = Source {
             draws,
             words: Vec::new(),
@@ -152,7 +158,7 @@ impl Case<'_> {
         };
         let reference = Memory::any(&mut source.draws, blocks, slots);
         Case {
-            library: Library::with(&reference),
+            tested: Tested::new(tested, &reference),
             reference,
             ledger: kind.has_ledger().then(Ledger::new),
             source,
@@ -175,7 +181,7 @@ impl Case<'_> {
         for _ in 0..number {
             if self.source.draws.below(4) == 0 {
                 self.reference.raise_reports(&mut self.source.draws);
-                self.library = Library::with(&self.reference);
+                self.tested.reset(&self.reference);
             }
             self.bring_next()?;
         }
@@ -193,7 +199,7 @@ impl Case<'_> {
             for _ in 0..self.source.draws.between(1, 3) {
                 self.reference.damage(&mut self.source.draws);
             }
-            self.library = Library::with(&self.reference);
+            self.tested.reset(&self.reference);
             for _ in 0..self.source.draws.between(1, 4) {
                 self.bring_next()?;
             }
@@ -208,7 +214,7 @@ impl Case<'_> {
         for _ in 0..rounds {
             let Source { draws, words, .. } = &mut self.source;
             self.reference = Memory::wild(draws, blocks, slots, words);
-            self.library = Library::with(&self.reference);
+            self.tested.reset(&self.reference);
             for _ in 0..self.source.draws.between(1, 4) {
                 self.bring_next()?;
             }
@@ -225,10 +231,10 @@ impl Case<'_> {
     /// Brings a call to all sides and compares what they answer and leave.
     fn bring(&mut self, call: &DrawnCall) -> Result<(), String> {
         let before = Sizes::of(&self.reference);
-        let outcome = self.library.bring(call).map_err(|text| told(call, &text))?;
+        let outcome = self.tested.bring(call).map_err(|text| told(call, &text))?;
         let expected = bring_to_reference(&mut self.reference, call);
         compare(call, &outcome, "reference", &expected)?;
-        let compared = self.library.compare(&self.reference);
+        let compared = self.tested.compare(&self.reference);
         compared.map_err(|text| told(call, &text))?;
         self.bring_to_ledger(call, &outcome)?;
         self.tally
@@ -259,17 +265,17 @@ impl Case<'_> {
     }
 }
 
-/// Fails unless the library's outcome is the expected one.
+/// Fails unless the outcome of the tested call is the expected one.
 fn compare(
     call: &DrawnCall,
-    library: &Outcome,
+    outcome: &Outcome,
     name: &str,
     expected: &Outcome,
 ) -> Result<(), String> {
-    if library == expected {
+    if outcome == expected {
         return Ok(());
     }
-    let text = format!("the library gives {library:?},\nthe {name} {expected:?}");
+    let text = format!("the tested call gives {outcome:?},\nthe {name} {expected:?}");
     Err(told(call, &text))
 }
 

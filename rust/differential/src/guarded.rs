@@ -36,10 +36,14 @@ impl<T: Copy + PartialEq + Debug + From<u8>> Guarded<T> {
         let before = &self.all[..GUARD];
         let after = &self.all[self.all.len() - GUARD..];
         if !before.iter().copied().eq(guard()) {
-            return Err(format!("the library wrote before the {name}: {before:?}"));
+            return Err(format!(
+                "the tested call wrote before the {name}: {before:?}"
+            ));
         }
         if !after.iter().copied().eq(guard()) {
-            return Err(format!("the library wrote behind the {name}: {after:?}"));
+            return Err(format!(
+                "the tested call wrote behind the {name}: {after:?}"
+            ));
         }
         Ok(())
     }

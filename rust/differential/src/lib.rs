@@ -7,7 +7,7 @@
 //! |---|---|
 //! | [`cases`] | one case for each seed: memory, a list of calls, damage between them |
 //! | [`memory`] | arena, table and counters of an index, and damage done to them |
-//! | [`sides`] | bringing one call to the library, to the reference or to the ledger |
+//! | [`sides`] | bringing one call to the implementation under test (the proved library, or another), to the reference or to the ledger |
 //! | [`guarded`] | slices with guards around them |
 //! | [`tally`] | which answers were met, and which never |
 

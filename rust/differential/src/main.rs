@@ -8,6 +8,7 @@ use std::process::ExitCode;
 use std::time::{Instant, SystemTime, UNIX_EPOCH};
 
 use differential::cases;
+use report_index::calls::LIBRARY;
 
 fn main() -> ExitCode {
     let words: Vec<String> = std::env::args().skip(1).collect();
@@ -19,7 +20,7 @@ fn main() -> ExitCode {
     };
     println!("seed {seed}");
     let clock = Instant::now();
-    match cases::run(seed, calls, |_| true) {
+    match cases::run(LIBRARY, seed, calls, |_| true) {
         Ok(tally) => {
             print!("{}", tally.text());
             println!(

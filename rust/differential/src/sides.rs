@@ -1,8 +1,9 @@
-//! Bringing one call to the library, to the reference or to the plain ledger.
+//! Bringing one call to the implementation under test, to the reference or to the plain ledger.
 
 use reference::drawn_calls::DrawnCall;
 use reference::index;
 use reference::ledger::Ledger;
+use report_index::calls::Calls;
 use report_index::raw;
 
 use crate::guarded::Guarded;
@@ -131,30 +132,37 @@ const COUNTERS_GUARD: raw::Counters = raw::Counters {
     reports: 0xD1D2_D3D4,
 };
 
-/// The memory lent to the library, with guards around each part.
+/// An implementation under test and the memory lent to it, with guards around each part.
 #[derive(Debug, Clone)]
-pub struct Library {
+pub struct Tested {
+    calls: Calls,
     arena: Guarded<u8>,
     table: Guarded<u32>,
     /// The lent counters stand in the middle.
     counters: [raw::Counters; 3],
 }
 
-impl Library {
-    /// Memory with these contents.
-    pub fn with(memory: &Memory) -> Library {
-        Library {
+impl Tested {
+    /// These calls, over memory with these contents.
+    pub fn new(calls: Calls, memory: &Memory) -> Tested {
+        Tested {
+            calls,
             arena: Guarded::new(&memory.arena),
             table: Guarded::new(&memory.table),
             counters: [COUNTERS_GUARD, counters_of(memory), COUNTERS_GUARD],
         }
     }
 
+    /// Gives the memory other contents.
+    pub fn reset(&mut self, memory: &Memory) {
+        *self = Tested::new(self.calls, memory);
+    }
+
     /// Brings a call. Fails if a guard or the frame is changed by it.
     pub fn bring(&mut self, call: &DrawnCall) -> Result<Outcome, String> {
         let outcome = match call {
             DrawnCall::Start => {
-                raw::start(self.table.lent_mut(), &mut self.counters[1]);
+                (self.calls.start)(self.table.lent_mut(), &mut self.counters[1]);
                 Outcome::without_lists(Answer::Started)
             }
             DrawnCall::Report { frame } => self.report(frame)?,
@@ -168,7 +176,7 @@ impl Library {
         self.arena.check("arena")?;
         self.table.check("table")?;
         if [self.counters[0], self.counters[2]] != [COUNTERS_GUARD; 2] {
-            return Err("the library wrote beside the counters".to_string());
+            return Err("the tested calls wrote beside the counters".to_string());
         }
         Ok(outcome)
     }
@@ -183,9 +191,7 @@ impl Library {
         }
         if self.counters[1] != counters_of(memory) {
             let (ours, theirs) = (self.counters[1], memory.counters);
-            return Err(format!(
-                "the library's {ours:?}, the reference's {theirs:?}"
-            ));
+            return Err(format!("the tested {ours:?}, the reference's {theirs:?}"));
         }
         Ok(())
     }
@@ -193,7 +199,7 @@ impl Library {
     fn report(&mut self, frame: &[u8]) -> Result<Outcome, String> {
         let lent = Guarded::new(frame);
         let (arena, table) = (self.arena.lent_mut(), self.table.lent_mut());
-        let answer = raw::report(arena, table, &mut self.counters[1], lent.lent());
+        let answer = (self.calls.report)(arena, table, &mut self.counters[1], lent.lent());
         check_frame(&lent, frame)?;
         Ok(Outcome::without_lists(Answer::Report(
             answer.refusal,
@@ -204,7 +210,7 @@ impl Library {
     fn list_one(&self, frame: &[u8], numbers: &[u32], counts: &[u32]) -> Result<Outcome, String> {
         let lent = Guarded::new(frame);
         let (mut numbers, mut counts) = (Guarded::new(numbers), Guarded::new(counts));
-        let answer = raw::list_one(
+        let answer = (self.calls.list_one)(
             self.arena.lent(),
             self.table.lent(),
             &self.counters[1],
@@ -225,7 +231,7 @@ impl Library {
     fn list_all(&self, frame: &[u8], numbers: &[u32]) -> Result<Outcome, String> {
         let lent = Guarded::new(frame);
         let mut numbers = Guarded::new(numbers);
-        let answer = raw::list_all(
+        let answer = (self.calls.list_all)(
             self.arena.lent(),
             self.table.lent(),
             &self.counters[1],
@@ -245,7 +251,7 @@ impl Library {
 /// Fails unless the frame and its guards are as they were.
 fn check_frame(lent: &Guarded<u8>, frame: &[u8]) -> Result<(), String> {
     if lent.lent() != frame {
-        return Err("the library changed the frame".to_string());
+        return Err("the tested call changed the frame".to_string());
     }
     lent.check("frame")
 }

@@ -9,6 +9,7 @@
 //! | [`Refusal`] | why a call is refused, with document 01's number |
 //! | [`Index`] | the same calls over memory of its own |
 //! | [`raw`] | the calls with the library's own answers; all `unsafe` stands there |
+//! | [`calls`] | the four calls as values, to choose an implementation |
 //!
 //! A frame is what document 01 calls a report or a query in bytes: the version 1, the length of the
 //! body in two bytes, the kind, and the fields of that kind. Numbers have four bytes, highest first.
@@ -43,6 +44,7 @@
 #![deny(unsafe_code)]
 #![warn(missing_docs)]
 
+pub mod calls;
 mod index;
 #[allow(unsafe_code)]
 pub mod raw;
