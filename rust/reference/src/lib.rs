@@ -17,6 +17,7 @@
 //! | [`desk`] | "The desk program" |
 //! | [`compose`] | none: making frames for questions and tests |
 //! | [`draws`] | none: drawn numbers for questions and tests |
+//! | [`drawn_calls`] | none: drawn calls for tests |
 //! | [`vectors`] | none: questions for both implementations, and answers |
 //!
 //! The program `write-vectors` stores the questions and answers in two files, `stdin` and `stdout`.
@@ -29,6 +30,7 @@ pub mod blocks;
 pub mod chains;
 pub mod compose;
 pub mod desk;
+pub mod drawn_calls;
 pub mod draws;
 pub mod frames;
 pub mod index;

@@ -2,6 +2,7 @@
 //! every answer, every place of the result lists, and the counters.
 
 use reference::compose::{query_frame, report_frame};
+use reference::drawn_calls::{DrawnCall, Source};
 use reference::draws::Draws;
 use reference::frames::Call;
 use reference::index::{self, Counters};
@@ -64,9 +65,9 @@ impl Both {
         answer.refusal
     }
 
-    /// Brings a frame to the one-term listing, with drawn lists of these lengths.
-    fn list_one(&mut self, draws: &mut Draws, frame: &[u8], lengths: [usize; 2]) {
-        let [mut numbers, mut counts] = lengths.map(|length| drawn_list(draws, length));
+    /// Brings a frame to the one-term listing, with these lists.
+    fn list_one(&mut self, frame: &[u8], mut numbers: Vec<u32>, mut counts: Vec<u32>) {
+        let places = numbers.len().min(counts.len());
         let (mut expected_numbers, mut expected_counts) = (numbers.clone(), counts.clone());
         let answer = index::list_one(
             &self.arena,
@@ -81,12 +82,12 @@ impl Both {
             .list_one(frame, &mut expected_numbers, &mut expected_counts);
         assert_eq!(numbers, expected_numbers, "{frame:02X?}");
         assert_eq!(counts, expected_counts, "{frame:02X?}");
-        self.compare(answer, expected, lengths[0].min(lengths[1]));
+        self.compare(answer, expected, places);
     }
 
-    /// Brings a frame to the all-terms listing, with a drawn list of this length.
-    fn list_all(&mut self, draws: &mut Draws, frame: &[u8], length: usize) {
-        let mut numbers = drawn_list(draws, length);
+    /// Brings a frame to the all-terms listing, with this list.
+    fn list_all(&mut self, frame: &[u8], mut numbers: Vec<u32>) {
+        let places = numbers.len();
         let mut expected_numbers = numbers.clone();
         let answer = index::list_all(
             &self.arena,
@@ -97,7 +98,23 @@ impl Both {
         );
         let expected = self.ledger.list_all(frame, &mut expected_numbers);
         assert_eq!(numbers, expected_numbers, "{frame:02X?}");
-        self.compare(answer, expected, length);
+        self.compare(answer, expected, places);
+    }
+
+    /// Brings the next call of the source.
+    fn bring_next(&mut self, source: &mut Source) {
+        match source.call(self.counters.reports) {
+            DrawnCall::Start => self.start(),
+            DrawnCall::Report { frame } => {
+                self.report(&frame);
+            }
+            DrawnCall::ListOne {
+                frame,
+                numbers,
+                counts,
+            } => self.list_one(&frame, numbers, counts),
+            DrawnCall::ListAll { frame, numbers } => self.list_all(&frame, numbers),
+        }
     }
 
     /// Compares two answers to a listing whose lists have this many places.
@@ -134,148 +151,9 @@ impl Both {
     }
 }
 
+/// A list of this length with any contents.
 fn drawn_list(draws: &mut Draws, length: usize) -> Vec<u32> {
     (0..length).map(|_| draws.number()).collect()
-}
-
-/// What calls are drawn from.
-struct Source {
-    draws: Draws,
-    /// The terms of all calls, in any spelling.
-    words: Vec<Vec<u8>>,
-    /// Of how many calls one is a listing.
-    listing_in: u64,
-    /// Of how many frames one has a fault.
-    fault_in: u64,
-    /// Of how many calls one is a start.
-    start_in: u64,
-    /// The most lines of a report.
-    lines: usize,
-}
-
-impl Source {
-    /// Terms of this number; every third one has 36 bytes, and the others have up to 12.
-    fn draw_words(&mut self, number: usize) {
-        self.words.clear();
-        for place in 0..number {
-            let length = if place % 3 == 2 {
-                36
-            } else {
-                self.draws.between(1, 12)
-            };
-            self.words.push(self.draws.term(length));
-        }
-    }
-
-    /// One of the terms, in half of all cases in capitals or in small letters alone.
-    fn word(&mut self) -> Vec<u8> {
-        let place = self.draws.between(0, self.words.len() - 1);
-        let word = &self.words[place];
-        match self.draws.below(4) {
-            0 => word.to_ascii_uppercase(),
-            1 => word.to_ascii_lowercase(),
-            _ => word.clone(),
-        }
-    }
-
-    fn some_words(&mut self, most: usize) -> Vec<Vec<u8>> {
-        let number = self.draws.between(0, most);
-        (0..number).map(|_| self.word()).collect()
-    }
-
-    /// The frame of a report. In some a term stands twice, and in some a count is 0.
-    fn report(&mut self) -> Vec<u8> {
-        let mut words = self.some_words(self.lines);
-        if self.draws.below(2 * self.fault_in) > 0 {
-            without_repeats(&mut words);
-        }
-        let lines: Vec<(&[u8], u32)> = words.iter().map(|word| (&word[..], self.count())).collect();
-        report_frame(&lines)
-    }
-
-    fn count(&mut self) -> u32 {
-        if self.draws.below(10 * self.fault_in) == 0 {
-            return 0;
-        }
-        self.draws.posting().count()
-    }
-
-    /// The frame of a query from a drawn start.
-    fn query(&mut self, call: Call, reports: u32) -> Vec<u8> {
-        let words = match call {
-            Call::OneTerm => vec![self.word()],
-            _ => self.some_words(3),
-        };
-        let words: Vec<&[u8]> = words.iter().map(|word| &word[..]).collect();
-        let start = match self.draws.below(3) {
-            0 => 0,
-            _ => self.draws.below(u64::from(reports) + 3) as u32,
-        };
-        query_frame(call, start, &words)
-    }
-
-    /// Changes the frame, if it is its turn to have a fault.
-    fn perhaps_faulty(&mut self, mut frame: Vec<u8>) -> Vec<u8> {
-        if self.draws.below(self.fault_in) > 0 {
-            return frame;
-        }
-        let place = self.draws.between(0, frame.len() - 1);
-        match self.draws.below(4) {
-            0 => frame[place] = self.draws.byte(),
-            1 => frame[place] ^= 1 << self.draws.below(8),
-            2 => {
-                frame.remove(place);
-            }
-            _ => {
-                frame.insert(place, self.draws.byte());
-            }
-        }
-        frame
-    }
-
-    /// The length of a result list. Lengths of 0 and 1 are common.
-    fn places(&mut self) -> usize {
-        let most = [1, 3, 20][self.draws.between(0, 2)];
-        self.draws.between(0, most)
-    }
-
-    /// Brings one drawn call.
-    fn call(&mut self, both: &mut Both) {
-        if self.draws.below(self.start_in) == 0 {
-            both.start();
-        } else if self.draws.below(self.listing_in) == 0 {
-            self.listing(both);
-        } else {
-            let frame = self.report();
-            let frame = self.perhaps_faulty(frame);
-            both.report(&frame);
-        }
-    }
-
-    /// Brings one drawn listing.
-    fn listing(&mut self, both: &mut Both) {
-        let call = [Call::OneTerm, Call::AllTerms][self.draws.between(0, 1)];
-        let frame = self.query(call, both.counters.reports);
-        let frame = self.perhaps_faulty(frame);
-        if call == Call::OneTerm {
-            let lengths = [self.places(), self.places()];
-            both.list_one(&mut self.draws, &frame, lengths);
-        } else {
-            let length = self.places();
-            both.list_all(&mut self.draws, &frame, length);
-        }
-    }
-}
-
-/// Leaves out each term that stands there before in some spelling.
-fn without_repeats(words: &mut Vec<Vec<u8>>) {
-    let mut met = Vec::new();
-    words.retain(|word| {
-        let folded = word.to_ascii_lowercase();
-        let is_new = !met.contains(&folded);
-        met.push(folded);
-        is_new
-    });
 }
 
 #[test]
@@ -296,7 +174,7 @@ fn small_memory() {
         source.draw_words(words);
         let mut both = Both::started(&mut source.draws, blocks, slots);
         for _ in 0..80 {
-            source.call(&mut both);
+            both.bring_next(&mut source);
             both.assert_counters();
         }
         add(&mut total, &both.tally);
@@ -338,7 +216,7 @@ fn long_chains() {
         source.draw_words(words);
         let mut both = Both::started(&mut source.draws, blocks, 8);
         for _ in 0..900 {
-            source.call(&mut both);
+            both.bring_next(&mut source);
         }
         both.assert_counters();
         assert!(both.counters.used > 20, "{:?}", both.counters);
@@ -359,11 +237,12 @@ fn one_term_until_the_arena_is_full() {
     let reports = both.counters.reports as usize;
     let frame = query_frame(Call::OneTerm, 0, &[b"ZN"]);
     for length in [0, 1, reports - 1, reports, reports + 1] {
-        both.list_one(&mut draws, &frame, [length, length]);
+        let [numbers, counts] = [length; 2].map(|length| drawn_list(&mut draws, length));
+        both.list_one(&frame, numbers, counts);
     }
     for start in [1, 2, both.counters.reports, both.counters.reports + 1] {
         let frame = query_frame(Call::AllTerms, start, &[b"zn", b"zn"]);
-        both.list_all(&mut draws, &frame, reports);
+        both.list_all(&frame, drawn_list(&mut draws, reports));
     }
 }
 
@@ -385,7 +264,8 @@ fn wide_gaps() {
     both.assert_counters();
     for word in words {
         let frame = query_frame(Call::OneTerm, 0, &[word]);
-        both.list_one(&mut draws, &frame, [100, 100]);
+        let [numbers, counts] = [100; 2].map(|length| drawn_list(&mut draws, length));
+        both.list_one(&frame, numbers, counts);
     }
     assert!(both.counters.used > 3);
 }
@@ -405,7 +285,7 @@ fn many_terms() {
         source.draw_words(90);
         let mut both = Both::started(&mut source.draws, 80, slots);
         for _ in 0..500 {
-            source.call(&mut both);
+            both.bring_next(&mut source);
         }
         both.assert_counters();
         assert!(both.tally.reports[11] + both.tally.reports[12] > 20);
