@@ -7,23 +7,22 @@ use mathlib.Core.List.{List, _++_}
 use native.Mathlib.Omega.{arith}
 use lib.Dec.{eqb}
 use lib.ListN.{length, length-append}
-use lib.Seq.{sets, length-sets}
+use lib.Seq.{sets}
 use borrow.Author.Tests.{leb-true, eq-eqb, ne-eqb}
 use Rattle.basics.specs.Words.{word}
 use Rattle.basics.proofs.Cases.{by-eq}
 use Rattle.basics.proofs.Parts.{sets-whole, getD-last}
 use Rattle.postings.proofs.Laws.{length-code-le}
-use Rattle.blocks.specs.declared.Head.{Head}
 use Rattle.blocks.specs.Fields.{blockSize, linkSize, place, linkOf, headOf}
 use Rattle.blocks.specs.Writes.{padded, changing, fits, addTo, joinTo, append}
 use Rattle.blocks.specs.Prescribed.{Posting, Reach}
+use Rattle.blocks.proofs.Writes.{length-padded, length-addTo, length-joinTo}
 use Rattle.chains.specs.Chains.{lastFrom}
 use Rattle.layout.specs.Chains.{After, coded, dEntry, bEntry, stays}
 use Rattle.layout.specs.Held.{Held, postingsOf, blockNo, headNo, tailNo, chain, headFor, blockBytes}
 use Rattle.layout.specs.Index.{Index, termAt, ownerAt, noOwner, usedOf, Linked, blockAt, Image, grown, withPostingAs, withPosting}
 use Rattle.layout.proofs.Held.{tailAt, nos-closed, fits-stays, head-stays, head-next}
 use Rattle.layout.proofs.Arena.{length-block, storeIf, store-block, store-front}
-use Rattle.layout.proofs.Forms.{length-padded}
 use Rattle.layout.proofs.Bytes.{fields, offsetIn, bytesIn, bytes-grown, bytes-next}
 use Rattle.layout.proofs.Linked.{joined-is, by-joined, mine, other}
 use Rattle.layout.proofs.Standing.{Standing, nos-pos, tail-lt, head-is, tail-link}
@@ -41,21 +40,13 @@ length-new n c h = length-padded (word n ++ c) (omega arith)
 
 -- ---- the arena's length is kept
 
-length-add : (a : List ℕ) (h : ℕ) (d : Head) (n f : ℕ) → length (addTo a h d n f) ≡ length a
-unfolding addTo
-length-add a h d n f = simp length-sets
-
-length-join : (a : List ℕ) (h : ℕ) (d : Head) (b n f : ℕ) → length (joinTo a h d b n f) ≡ length a
-unfolding joinTo
-length-join a h d b n f = simp length-sets
-
 pub append-length : (a : List ℕ) (h b n f : ℕ) → length (append a h b n f) ≡ length a
 unfolding append
 append-length a h b n f = go (fits (headOf a h) n f)
   where
     go : (t : Bool) → length (cond t (addTo a h (headOf a h) n f) (joinTo a h (headOf a h) b n f)) ≡ length a
-    go true = length-add a h (headOf a h) n f
-    go false = length-join a h (headOf a h) b n f
+    go true = length-addTo a h (headOf a h) n f
+    go false = length-joinTo a h (headOf a h) b n f
 
 -- ---- the stores, block by block
 
@@ -101,8 +92,8 @@ module _ (a : List ℕ) (used : ℕ) (t : Held) (p : Posting) (st : Standing a u
   append-is false e = rw (head-is st, fits-stays t p, e)
 
   length-writes : (b : Bool) → length (writes b) ≡ length a
-  length-writes true = length-add a (headNo t) (headFor t) (p .number) (p .count)
-  length-writes false = length-join a (headNo t) (headFor t) used (p .number) (p .count)
+  length-writes true = length-addTo a (headNo t) (headFor t) (p .number) (p .count)
+  length-writes false = length-joinTo a (headNo t) (headFor t) used (p .number) (p .count)
 
   not-new : (j : ℕ) → j < length (t .nos) → eqb used (blockNo t j) ≡ false
   not-new j h = ne-eqb used (blockNo t j) (λ q. omega (arith, st .in-use j h))

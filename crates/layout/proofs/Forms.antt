@@ -7,7 +7,7 @@ use mathlib.Core.List.{List, [], _∷_, _++_, append-assoc}
 use native.Mathlib.Omega.{arith}
 use native.Mathlib.Nat.{add-zero}
 use lib.Dec.{eqb}
-use lib.ListN.{length, getD, take, drop, replicate, length-append, length-replicate}
+use lib.ListN.{length, getD, take, drop, replicate, length-append}
 use lib.Seq.{sets, drop-at, take-at}
 use borrow.Author.Tests.{ne-eqb}
 use Rattle.basics.specs.Words.{word, wordAt}
@@ -21,10 +21,6 @@ use Rattle.layout.proofs.Chains.{startAt}
 use Rattle.layout.proofs.Arena.{storeIf}
 
 -- ---- a cleared block
-
-pub length-padded : (s : List ℕ) → length s ≤ blockSize → length (padded s) ≡ blockSize
-unfolding padded
-length-padded s h = rw (length-append, length-replicate) (omega arith)
 
 -- bytes stored behind those that are written
 padded-more : (s t : List ℕ) → length s + length t ≤ blockSize → sets (padded s) (length s) t ≡ padded (s ++ t)

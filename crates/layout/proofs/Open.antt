@@ -17,11 +17,11 @@ use Rattle.terms.specs.Terms.{maxTerm}
 use Rattle.blocks.specs.Fields.{blockSize, headFixed, place}
 use Rattle.blocks.specs.Writes.{padded, changing, headBytes, openHead}
 use Rattle.blocks.specs.Prescribed.{Posting}
+use Rattle.blocks.proofs.Writes.{length-padded}
 use Rattle.layout.specs.Chains.{After}
 use Rattle.layout.specs.Held.{blockBytes}
 use Rattle.layout.specs.Index.{Index, termAt, ownerAt, usedOf, Linked, blockAt, Image, withTerm}
 use Rattle.layout.proofs.Arena.{length-block, storeIf, store-front}
-use Rattle.layout.proofs.Forms.{length-padded}
 use Rattle.layout.proofs.Bytes.{bytes-fresh}
 use Rattle.layout.proofs.Linked.{keeps-term, old-term, new-term, new-owner, used-term}
 

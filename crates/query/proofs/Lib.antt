@@ -6,3 +6,4 @@ pub mod Seeking
 pub mod Gathering
 pub mod Naming
 pub mod All
+pub mod Bounds
