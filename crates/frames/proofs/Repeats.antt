@@ -11,8 +11,7 @@ use borrow.Author.Tests.{eq-eqb, ne-eqb}
 use Rattle.basics.specs.Lists.{any, same}
 use Rattle.basics.proofs.Cases.{by-eq}
 use Rattle.basics.proofs.Lists.{ne-same}
-use Rattle.terms.specs.Terms.{maxTerm, fnv1a}
-use Rattle.terms.proofs.Laws.{term-length}
+use Rattle.terms.specs.Terms.{isTerm, markOf}
 use Rattle.frames.specs.Frames.{
   countBytes,
   firstLine,
@@ -108,7 +107,7 @@ abbrev buckets : ℕ
 buckets = 256
 
 unfoldable pub bucket : List ℕ → ℕ
-bucket t = fnv1a t % buckets
+bucket t = markOf t % buckets
 
 bucket-small : (t : List ℕ) → bucket t < buckets
 unfolding bucket
@@ -158,8 +157,8 @@ module _ {f last earlier : List ℕ} {at : ℕ} (p : Passed f last earlier at) w
     pub passed-line : Field countBytes f at
     passed-line = field-here countBytes f at (p .whole) h
 
-    pub passed-term : length (termAt f at) ≤ maxTerm
-    passed-term = term-length (termAt f at) (good-here countBytes f at h (p .good)) .1
+    pub passed-term : isTerm (termAt f at) ≡ true
+    passed-term = good-here countBytes f at h (p .good)
 
     -- its folded term, the chain where that is looked for, and the arrays once the line is put before that chain
     abbrev term : List ℕ
@@ -206,7 +205,7 @@ module _ {f last earlier : List ℕ} {at : ℕ} (p : Passed f last earlier at) w
         let s : 0 < at = omega (arith, p .behind 0) in
         rw (e, getD-set-same last (bucket term) at 0 l, has-more f t earlier′ falls′ at s, getD-set-same earlier at latest 0 r, chain-as (bucket term), ← e, p .held t)
 
-    -- a term of another bucket is not the line's, since equal terms have equal hashes
+    -- a term of another bucket is not the line's, since equal terms have equal marks
     held-other : (t : List ℕ) → (bucket t ≡ bucket term → ⊥) → hasTerm f t (chain earlier′ (getD last′ (bucket t) 0)) ≡ any (same t) (term ∷ p .seen)
     unfolding any
     held-other t n =

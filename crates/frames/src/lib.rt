@@ -187,7 +187,7 @@ fn in_chain(frame: &[u8], earlier: &[u16; 4100], last: u16, c: Cursor) -> bool
     false
 }
 
-// Refusal 7: whether two lines have one folded term. Lines are chained by a hash of their folded terms, so that each is compared with few others.
+// Refusal 7: whether two lines have one folded term. Lines are chained by a mark of their folded terms, so that each is compared with few others.
 fn repeated_term(frame: &[u8]) -> bool
     requires { ⌜ (length (now frame) ≤ maxBody + 3) × (passesEnd countBytes (now frame) firstLine ≡ false) × (badTerm (now frame) (lines (now frame)) ≡ false) ⌝ }
     ensures { λ r. ⌜ r ≡ repeatedTerm (now (frame .entry)) (lines (now (frame .entry))) ⌝ }
@@ -197,7 +197,7 @@ fn repeated_term(frame: &[u8]) -> bool
     let mut c = Cursor { at: 4 };
     while c.at < frame.len() {
         let at = c.at;
-        let bucket = (terms::fold(c.term(frame)).hash % 256) as usize;
+        let bucket = (terms::mark(c.term(frame)) % 256) as usize;
         let latest = last[bucket];
         if in_chain(frame, &earlier, latest, c) {
             return true;

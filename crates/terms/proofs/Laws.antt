@@ -88,6 +88,20 @@ fold-fold b =
 -- ---- a list of bytes
 
 -- folding keeps the length
+-- an allowed byte, by the rule
+module _ (b : ℕ) (a : allowed b ≡ true) where
+  pub fold-below : b < 0x41 → foldByte b ≡ b
+  unfolding foldByte capital
+  fold-below h = rw (a, lt-leb 0x41 b h)
+
+  pub fold-above : 0x5a < b → foldByte b ≡ b
+  unfolding foldByte capital
+  fold-above h = rw (a, le-leb 0x41 b (omega arith), lt-leb b 0x5a h)
+
+  pub fold-capital : 0x41 ≤ b → b ≤ 0x5a → foldByte b ≡ b + 32
+  unfolding foldByte capital
+  fold-capital h k = rw (a, le-leb 0x41 b h, le-leb b 0x5a k)
+
 pub length-folded : (s : List ℕ) → length (folded s) ≡ length s
 unfolding folded
 length-folded s = length-map s foldByte

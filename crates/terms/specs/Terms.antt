@@ -45,6 +45,18 @@ mixedAll hash (b ∷ s) = mixedAll (mixed hash b) s
 unfoldable pub fnv1a : List ℕ → ℕ
 fnv1a s = mixedAll 2166136261 s
 
+-- ---- a mark, cheaper than the hash, by which equal terms are found in one frame
+
+unfoldable pub markedWith : ℕ → ℕ → ℕ
+markedWith m b = (m * 3 + b) % 65536
+
+unfoldable pub markAll : ℕ → List ℕ → ℕ
+markAll m [] = m
+markAll m (b ∷ s) = markAll (markedWith m b) s
+
+unfoldable pub markOf : List ℕ → ℕ
+markOf s = markAll 0 s
+
 -- ---- a term folded once
 
 -- its folded bytes with nulls behind them, its length, and the hash of its folded bytes

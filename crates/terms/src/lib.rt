@@ -1,9 +1,10 @@
 // Terms: which bytes they may have, folding (document 01, "Frames"), and the hash by which they are found ("Finding a term").
 ghost use mathlib.Core.Path.{_≡_};
+ghost use mathlib.Core.Bool.{true};
 ghost use Prim.Native.Nat.{_≤_};
 ghost use lib.ListN.{length};
 ghost use Rattle.basics.specs.Lists.{same};
-ghost use Rattle.terms.specs.Terms.{maxTerm, folded, isTerm, mixed, fnv1a, termOf};
+ghost use Rattle.terms.specs.Terms.{maxTerm, allowed, foldByte, folded, isTerm, mixed, fnv1a, markOf, termOf};
 
 // A term folded once: its folded bytes with nulls behind them, its length, and the FNV-1a of its folded bytes.
 pub struct Term {
@@ -328,6 +329,35 @@ pub fn fnv1a(s: &[u8]) -> u32
         i += 1;
     }
     hash
+}
+
+// A byte of a term folded by the rule: the table would be laid out anew for every term.
+fn folded_byte(b: u8) -> u8
+    requires { ⌜ allowed b ≡ true ⌝ }
+    ensures { λ r. ⌜ r ≡ foldByte b ⌝ }
+{
+    if b < 65 {
+        return b;
+    }
+    if 90 < b {
+        return b;
+    }
+    b + 32
+}
+
+// A number that terms share which fold to the same bytes.
+pub fn mark(s: &[u8]) -> u32
+    requires { ⌜ isTerm (now s) ≡ true ⌝ }
+    ensures { λ r. ⌜ r ≡ markOf (folded (now (s .entry))) ⌝ }
+{
+    let mut m: u32 = 0;
+    let mut i: usize = 0;
+    while i < s.len() {
+        let b = folded_byte(s[i]);
+        m = (m * 3 + b as u32) % 65536;
+        i += 1;
+    }
+    m
 }
 
 // The bytes folded, with their hash.

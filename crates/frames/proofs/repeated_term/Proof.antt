@@ -6,7 +6,6 @@ use mathlib.Core.Path.{_≡_, refl, sym, ap, _∙_}
 use mathlib.Core.List.{List}
 use Prim.Native.Nat.{ℕ, _-_, _%_, _<_}
 use lib.ListN.{length, getD}
-use Rattle.terms.proofs.Laws.{termOf-hash}
 use Rattle.frames.specs.Frames.{countBytes, foldedAt}
 use Rattle.frames.specs.Repeats.{chain, slots}
 use Rattle.frames.proofs.Fields.{past-more, field-term}
@@ -43,12 +42,12 @@ module _ (c : tie.Then1 Inv-loop μ-loop) where
 term-requires : tie.Need-term-requires Inv-loop μ-loop
 term-requires c κs = field-term countBytes (frame c) (at c) (passed-line (l c .loop .inv) (c .if1 .taken))
 
-fold-requires : tie.Need-fold-requires Inv-loop μ-loop
-fold-requires c κs = rw (c .term .ensures) (passed-term (l (c .before) .loop .inv) (c .before .if1 .taken))
+mark-requires : tie.Need-mark-requires Inv-loop μ-loop
+mark-requires c κs = rw (c .term .ensures) (passed-term (l (c .before) .loop .inv) (c .before .if1 .taken))
 
-bucket-is : (c : tie.After-fold Inv-loop μ-loop) → c .fold .result .hash % 256 ≡ bucket (term (c .before .before))
+bucket-is : (c : tie.After-mark Inv-loop μ-loop) → c .mark .result % 256 ≡ bucket (term (c .before .before))
 unfolding bucket
-bucket-is c = ap (λ r. r .hash % 256) (c .fold .ensures) ∙ rw (termOf-hash, c .before .term .ensures)
+bucket-is c = ap (λ (m : ℕ). m % 256) (c .mark .ensures) ∙ rw (c .before .term .ensures)
 
 cast-bucket : tie.Need-cast-bucket Inv-loop μ-loop
 cast-bucket c = search needs
@@ -61,16 +60,16 @@ array-read-latest c = search needs
 
 in-chain-requires : tie.Need-in-chain-requires Inv-loop μ-loop
 in-chain-requires c κs =
-    let t = c .before .before .before .before in
+    let t = c .before .before .before in
     (l t .loop .inv .chained _, passed-line (l t .loop .inv) (t .if1 .taken))
 
 -- whether its bucket's chain has its term
 module _ (c : tie.After-in-chain Inv-loop μ-loop) where
   abbrev here : tie.Then1 Inv-loop μ-loop
-  here = c .before .before .before .before .before
+  here = c .before .before .before .before
 
   test : hasTerm (frame here) (term here) (chain (l here .loop .earlier) (getD (l here .loop .last) (bucket (term here)) 0)) ≡ c .in-chain .result
-  test = sym (c .in-chain .ensures ∙ rw (bucket-is (c .before .before .before)))
+  test = sym (c .in-chain .ensures ∙ rw (bucket-is (c .before .before)))
 
 returns : tie.Need-returns Inv-loop μ-loop
 returns c =
@@ -103,7 +102,7 @@ loop-less c =
 loop-again : tie.Need-loop-again Inv-loop μ-loop
 loop-again c =
     let t = here (c .before .before) in
-    rw (c .past .ensures, bucket-is (c .before .before .before .before .before))
+    rw (c .past .ensures, bucket-is (c .before .before .before .before))
     (passed-more (l t .loop .inv) (t .if1 .taken) (test (c .before .before) ∙ c .before .if2 .left))
 
 returns-2 : tie.Need-returns-2 Inv-loop μ-loop
@@ -117,7 +116,7 @@ repeated-term-spec =
     μ-loop
     loop-holds
     term-requires
-    fold-requires
+    mark-requires
     cast-bucket
     mul-latest
     array-read-latest
