@@ -1,6 +1,6 @@
 -- Laws of the tests on lists, and of parts of lists.
 -- Assumes nothing.
-use Prim.Native.Nat.{ℕ, zero, suc, _+_, _-_, _<_}
+use Prim.Native.Nat.{ℕ, zero, suc, _+_, _-_, _≤_, _<_}
 use mathlib.Core.Path.{_≡_, refl}
 use mathlib.Core.Bool.{Bool, true, false, _&&_, _||_}
 use mathlib.Core.List.{List, [], _∷_, map}
@@ -9,7 +9,7 @@ use native.Mathlib.Numerals.{add-one}
 use native.Mathlib.Nat.{le-of-suc-le-suc, sub-zero, zero-sub, suc-sub-suc}
 use borrow.Author.Tests.{eqb-true, eq-eqb}
 use lib.Dec.{eqb}
-use lib.ListN.{length, getD, take, drop, replicate}
+use lib.ListN.{length, getD, take, drop, drop-of-length-le, replicate}
 use lib.Seq.{drop-cons}
 use Rattle.basics.specs.Lists.{all, keep, same}
 
@@ -101,6 +101,18 @@ pub or-right : (a b : Bool) → a || b ≡ false → b ≡ false
 or-right true b e = let z : _≡_ {A = ℕ} 0 1 = cc in absurd (omega arith)
 or-right false b e = e
 
+pub or-true : (a : Bool) → a || true ≡ true
+or-true true = refl
+or-true false = refl
+
+pub or-false : (a : Bool) → a || false ≡ a
+or-false true = refl
+or-false false = refl
+
+pub or-assoc : (a b c : Bool) → a || (b || c) ≡ (a || b) || c
+or-assoc true b c = refl
+or-assoc false b c = refl
+
 -- ---- the same list
 
 pub same-refl : (s : List ℕ) → same s s ≡ true
@@ -120,6 +132,16 @@ same-eq (x ∷ s) (y ∷ t) e =
     let p : x ≡ y = eqb-true x y (and-left (eqb x y) (same s t) e) in
     let q : s ≡ t = same-eq s t (and-right (eqb x y) (same s t) e) in
     cc
+
+-- the lists from the i-th element on: that element, and those behind it
+pub same-drop : (s t : List ℕ) (i : ℕ) → i < length s → i < length t → same (drop i s) (drop i t) ≡ eqb (getD s i 0) (getD t i 0) && same (drop (i + 1) s) (drop (i + 1) t)
+unfolding same
+same-drop s t i h l = rw (add-one, drop-cons s i 0 h, drop-cons t i 0 l)
+
+-- nothing is left of either
+pub same-none : (s t : List ℕ) (i : ℕ) → length s ≤ i → length t ≤ i → same (drop i s) (drop i t) ≡ true
+unfolding same
+same-none s t i h l = rw (drop-of-length-le s h, drop-of-length-le t l)
 
 -- lists that differ fail the test
 pub ne-same : (s t : List ℕ) → (s ≡ t → ⊥) → same s t ≡ false

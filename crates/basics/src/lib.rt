@@ -1,9 +1,10 @@
-// What every crate above shares: 32-bit numbers in byte slices, highest byte first. The laws on numbers, lists and tables stand in proofs/.
+// What every crate above shares: 32-bit numbers in byte slices, highest byte first, and whether two slices are the same. The laws on numbers, lists and tables stand in proofs/.
 ghost use mathlib.Core.Path.{_≡_};
 ghost use Prim.Native.Nat.{_+_, _≤_, _<_};
 ghost use lib.ListN.{length};
 ghost use lib.Seq.{sets};
 ghost use Rattle.basics.specs.Words.{word, wordAt};
+ghost use Rattle.basics.specs.Lists.{same};
 
 // A byte as a number.
 pub fn wide(b: u8) -> usize
@@ -32,4 +33,21 @@ pub fn write_word(s: &mut [u8], at: usize, n: u32)
     s[at + 1] = (n / 65536 % 256) as u8;
     s[at + 2] = (n / 256 % 256) as u8;
     s[at + 3] = (n % 256) as u8;
+}
+
+// Whether two slices have the same bytes.
+pub fn same_bytes(a: &[u8], b: &[u8]) -> bool
+    ensures { λ r. ⌜ r ≡ same (now (a .entry)) (now (b .entry)) ⌝ }
+{
+    if a.len() != b.len() {
+        return false;
+    }
+    let mut i: usize = 0;
+    while i < a.len() {
+        if a[i] != b[i] {
+            return false;
+        }
+        i += 1;
+    }
+    true
 }

@@ -6,13 +6,12 @@ ghost use Prim.Native.Nat.{_+_, _-_, _*_, _≤_, _<_};
 ghost use lib.ListN.{length};
 ghost use lib.Seq.{sets};
 ghost use Rattle.postings.specs.Coding.{code};
-ghost use Rattle.terms.specs.Terms.{maxTerm, nameIn};
-ghost use Rattle.blocks.specs.Fields.{blockSize, headFixed, capacity, place, linkOf, headOf, partStart, partOf};
+ghost use Rattle.terms.specs.Terms.{maxTerm};
+ghost use Rattle.blocks.specs.Fields.{blockSize, capacity, place, linkOf, headOf, partStart};
 ghost use Rattle.blocks.specs.Marked.{markedRight};
 ghost use Rattle.blocks.specs.Writes.{padded, changing, openHead, fits, addTo, joinTo, append, Appends};
 use postings::BGap;
 use postings::DGap;
-use terms::Term;
 
 // The fields of a head but its link and its term.
 pub struct Head {
@@ -118,30 +117,28 @@ fn put_next(arena: &mut [u8], b: u32, end: usize, gap: DGap, count: u32) -> usiz
 }
 
 // Writes the bytes of a folded term from `at` on.
-fn put_term(arena: &mut [u8], at: usize, term: Term)
-    requires { ⌜ (term .length ≤ maxTerm) × (at + term .length ≤ length (now arena)) ⌝ }
-    ensures { λ r. ⌜ now (arena .exit) ≡ sets (now (arena .entry)) at (nameIn term) ⌝ }
+fn put_name(arena: &mut [u8], at: usize, name: &[u8])
+    requires { ⌜ at + length (now name) ≤ length (now arena) ⌝ }
+    ensures { λ r. ⌜ now (arena .exit) ≡ sets (now (arena .entry)) at (now (name .entry)) ⌝ }
 {
-    let bytes = term.bytes;
-    let n = term.length;
     let mut i: usize = 0;
-    while i < n {
-        arena[at + i] = bytes[i];
+    while i < name.len() {
+        arena[at + i] = name[i];
         i += 1;
     }
 }
 
 // A new term: its head at block b, with its first posting. A head's first gap counts from 0.
-pub fn open_head(arena: &mut [u8], b: u32, term: Term, number: u32, count: u32)
-    requires { ⌜ (term .length ≤ maxTerm) × (0 < number) × (place b + blockSize ≤ length (now arena)) ⌝ }
-    ensures { λ r. ⌜ now (arena .exit) ≡ openHead (now (arena .entry)) b (nameIn term) number count ⌝ }
+pub fn open_head(arena: &mut [u8], b: u32, name: &[u8], number: u32, count: u32)
+    requires { ⌜ (length (now name) ≤ maxTerm) × (0 < number) × (place b + blockSize ≤ length (now arena)) ⌝ }
+    ensures { λ r. ⌜ now (arena .exit) ≡ openHead (now (arena .entry)) b (now (name .entry)) number count ⌝ }
 {
     let at = place_of(b);
-    let n = term.length;
+    let n = name.len();
     clear(arena, b);
     basics::write_word(arena, at, number);
     arena[at + 17] = n as u8;
-    put_term(arena, at + 18, term);
+    put_name(arena, at + 18, name);
     let end = put_first(arena, b, 18 + n, BGap::from_first(0, number), count);
     put_changing(arena, b, b, number, 1, end);
 }

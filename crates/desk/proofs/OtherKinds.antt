@@ -7,7 +7,7 @@ use mathlib.Core.Bool.{Bool, true, false, cond}
 use native.Mathlib.Omega.{arith}
 use borrow.Author.Tests.{ne-eqb}
 use Rattle.frames.specs.Refusals.{firstOf}
-use Rattle.frames.specs.Frames.{kind, wrongVersion, wrongLength, wrongKind, headRows, reportRows, reportRefusal}
+use Rattle.frames.specs.Frames.{kind, wrongVersion, wrongLength, wrongKind, headRows, fieldRows, reportRows, reportRefusal}
 use Rattle.desk.specs.declared.Kind.the-variants.{Report, One, All, Other}
 use Rattle.desk.specs.Desk.{kindOf, otherRefusal}
 
@@ -30,7 +30,7 @@ module _ (f : List ℕ) where
 
   -- a kind other than 01 gives 1, 2 or 3 when the frame is read as a report
   pub other-report : (kind f ≡ 1 → ⊥) → reportRefusal f ≡ otherRefusal f
-  unfolding reportRefusal reportRows headRows wrongKind otherRefusal firstOf
+  unfolding reportRefusal reportRows headRows fieldRows wrongKind otherRefusal firstOf
   other-report h = rw (ne-eqb (kind f) 1 h)
 
   pub other-not-report : kindOf f ≡ Other → kind f ≡ 1 → ⊥

@@ -1,17 +1,15 @@
--- Refusals 5 and 6, judged from one field to the next.
+-- Refusal 5, judged from one field to the next.
 -- Assumes nothing.
 use mathlib.Core.Path.{_≡_, refl, sym, ap, _∙_}
 use mathlib.Core.Bool.{Bool, true, false}
 use mathlib.Core.List.{List, [], _∷_}
 use Prim.Native.Nat.{ℕ, _≤_, _<_}
 use native.Mathlib.Omega.{arith}
-use lib.Dec.{eqb}
 use lib.ListN.{length}
-use borrow.Author.Tests.{eq-eqb, ne-eqb}
 use Rattle.basics.specs.Lists.{any}
 use Rattle.terms.specs.Terms.{isTerm}
-use Rattle.frames.specs.Frames.{termAt, countAt, pastField, fields, badTerm, zeroCount}
-use Rattle.frames.proofs.Fields.{fields-end, fields-more, any-end, any-here, any-on}
+use Rattle.frames.specs.Frames.{termAt, pastField, fields, badTerm}
+use Rattle.frames.proofs.Fields.{fields-end, fields-more}
 
 -- refusal 5 over a list of fields: none of none is bad; a field that is not a term decides, one that is a term is passed over
 module _ (f : List ℕ) where
@@ -50,16 +48,3 @@ module _ (tail : ℕ) (f : List ℕ) (at : ℕ) where
 
     pub good-on : badTerm f (fields tail f (pastField tail f at)) ≡ false
     good-on = sym (bad-on h good-here) ∙ g
-
-  pub zero-end : length f ≤ at → zeroCount f (fields tail f at) ≡ false
-  unfolding zeroCount
-  zero-end h = any-end tail f (λ at. eqb (countAt f at) 0) at h
-
-  module _ (h : at < length f) where
-    pub zero-here : countAt f at ≡ 0 → zeroCount f (fields tail f at) ≡ true
-    unfolding zeroCount
-    zero-here e = any-here tail f (λ at. eqb (countAt f at) 0) at h (eq-eqb (countAt f at) 0 e)
-
-    pub zero-on : (countAt f at ≡ 0 → ⊥) → zeroCount f (fields tail f at) ≡ zeroCount f (fields tail f (pastField tail f at))
-    unfolding zeroCount
-    zero-on n = any-on tail f (λ at. eqb (countAt f at) 0) at h (ne-eqb (countAt f at) 0 n)

@@ -12,17 +12,17 @@ use Rattle.basics.specs.Lists.{all}
 use Rattle.basics.proofs.Cases.{by-lt}
 use Rattle.basics.proofs.Lists.{or-left, or-right}
 use Rattle.terms.specs.Terms.{maxTerm}
-use Rattle.terms.proofs.Laws.{term-length}
+use Rattle.terms.proofs.Laws.{term-length, length-folded}
 use Rattle.frames.specs.declared.Cursor.{Cursor}
 use Rattle.frames.specs.declared.Report.the-variants as report
 use Rattle.frames.specs.declared.Query.the-variants as query
 use Rattle.frames.specs.Refusals.{Row, _if_, firstOf}
-use Rattle.frames.specs.Frames.{maxBody, countBytes, firstLine, firstTerm, termAt, pastField, Field, fields, lines, terms, passesEnd, wrongTerms, badTerm, zeroCount, repeatedTerm, headRows, reportRows, queryRows, reportRefusal, queryRefusal, lineAt, foldedAt, reportAs, reportFrame, queryStart, queryAs, queryFrame, queryTerms}
+use Rattle.frames.specs.Frames.{maxBody, countBytes, firstLine, firstTerm, termAt, pastField, Field, fields, lines, terms, passesEnd, wrongTerms, badTerm, zeroCount, repeatedTerm, headRows, fieldRows, reportRows, queryRows, reportRefusal, queryRefusal, lineAt, foldedAt, reportAs, reportFrame, queryStart, queryAs, queryFrame, queryTerms}
 use Rattle.frames.proofs.Refusals.{Numbered, numbered, first-empty, first-zero, both-zero, first-le, first-some, first-none}
 use Rattle.frames.proofs.Heads.{head-numbered, headed, Headed}
 use Rattle.frames.proofs.Fields.{fields-end, fields-more, field-here, whole-on}
 use Rattle.frames.proofs.Conditions.{good-here, good-on}
-use Rattle.frames.proofs.Reports.{lines-judged, none-holds}
+use Rattle.frames.proofs.Reports.{no-field, none-holds}
 
 -- ---- frames that are not refused
 
@@ -35,12 +35,11 @@ pub record SoundReport (f : List ℕ) : Type 0 where
   pub distinct : repeatedTerm f (lines f) ≡ false
 
 pub sound-report : (f : List ℕ) → reportRefusal f ≡ 0 → SoundReport f
-unfolding reportRefusal reportRows
 sound-report f z =
-    let h = both-zero _ (head-numbered 1 f) z .0 in
-    let d : Headed 1 f = headed 1 f h in
-    let l = none-holds f (sym (lines-judged f h) ∙ z) in
-    record { long = d .long; short = d .short; uncut = l .0; good = l .1; counted = l .2; distinct = l .3 }
+    let h = none-holds f z in
+    let d : Headed 1 f = headed 1 f (h .0) in
+    let l = no-field f (h .1) in
+    record { long = d .long; short = d .short; uncut = l .0; good = l .1; counted = l .2; distinct = h .2 }
 
 pub record SoundQuery (most : ℕ) (f : List ℕ) : Type 0 where
   pub right : wrongTerms most f ≡ false
@@ -180,6 +179,10 @@ module _ {tail : ℕ} {f : List ℕ} {at : ℕ} (s : Sound tail f at) (h : at < 
   pub sound-term : length (termAt f at) ≤ maxTerm
   sound-term = term-length (termAt f at) (good-here tail f at h (s .good)) .1
 
+  -- and as many folded
+  pub sound-name : length (foldedAt f at) ≤ maxTerm
+  sound-name = rw (length-folded (termAt f at)) sound-term
+
   -- and so on from the next
   pub sound-on : Sound tail f (pastField tail f at)
   sound-on = record { whole = whole-on tail f at (s .whole) h; good = good-on tail f at h (s .good) }
@@ -189,7 +192,7 @@ module _ {tail : ℕ} {f : List ℕ} {at : ℕ} (s : Sound tail f at) (h : at < 
 module _ (f : List ℕ) where
   -- a report's frame is refused with 1 to 7
   pub report-le : reportRefusal f ≤ 7
-  unfolding reportRefusal reportRows headRows
+  unfolding reportRefusal reportRows headRows fieldRows
   report-le =
       let last : firstOf [] ≤ 7 = rw first-empty (omega arith) in
       first-le 7 _ _ (omega arith)

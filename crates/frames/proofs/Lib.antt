@@ -2,6 +2,7 @@ pub mod Refusals
 pub mod Fields
 pub mod Heads
 pub mod Conditions
+pub mod Read
 pub mod Repeats
 pub mod Queries
 pub mod Reports

@@ -11,24 +11,21 @@ use borrow.Author.Tests.{eq-eqb, ne-eqb}
 use Rattle.basics.specs.Lists.{any, same}
 use Rattle.basics.proofs.Cases.{by-eq}
 use Rattle.basics.proofs.Lists.{ne-same}
-use Rattle.terms.specs.Terms.{isTerm, markOf}
+use Rattle.terms.specs.Terms.{fnv1a}
 use Rattle.frames.specs.Frames.{
   countBytes,
   firstLine,
-  termAt,
   pastField,
   Field,
   fields,
   lines,
   passesEnd,
-  badTerm,
   repeatsAfter,
   foldedAt,
   repeatedTerm,
 }
 use Rattle.frames.specs.Repeats.{chainUpTo, chain, slots, Chained}
 use Rattle.frames.proofs.Fields.{past-more, fields-end, fields-more, field-here, whole-on}
-use Rattle.frames.proofs.Conditions.{good-here, good-on}
 
 -- ---- following a chain
 
@@ -107,7 +104,7 @@ abbrev buckets : ℕ
 buckets = 256
 
 unfoldable pub bucket : List ℕ → ℕ
-bucket t = markOf t % buckets
+bucket t = fnv1a t % buckets
 
 bucket-small : (t : List ℕ) → bucket t < buckets
 unfolding bucket
@@ -121,21 +118,19 @@ pub record Passed (f last earlier : List ℕ) (at : ℕ) : Type 0 where
   pub seen : List (List ℕ)
   pub left : repeatedTerm f (lines f) ≡ repeatsAfter seen (map (foldedAt f) (fields countBytes f at))
   pub whole : passesEnd countBytes f at ≡ false
-  pub good : badTerm f (fields countBytes f at) ≡ false
   pub chained : (b : ℕ) → Chained f earlier (getD last b 0)
   pub behind : (b : ℕ) → getD last b 0 < at
   pub held : (t : List ℕ) → hasTerm f t (chain earlier (getD last (bucket t) 0)) ≡ any (same t) seen
 
 -- at the first line all chains are empty
-pub passed-none : (f : List ℕ) (n m : ℕ) → n ≡ buckets → m ≡ slots → length f ≤ slots → passesEnd countBytes f firstLine ≡ false → badTerm f (lines f) ≡ false → Passed f (replicate n 0) (replicate m 0) firstLine
+pub passed-none : (f : List ℕ) (n m : ℕ) → n ≡ buckets → m ≡ slots → length f ≤ slots → passesEnd countBytes f firstLine ≡ false → Passed f (replicate n 0) (replicate m 0) firstLine
 unfolding repeatedTerm any
-passed-none f n m en em h w g = record {
+passed-none f n m en em h w = record {
   last-length = rw length-replicate en;
   earlier-length = rw length-replicate em;
   seen = [];
   left = refl;
   whole = w;
-  good = g;
   chained = λ b. record {
     room = h;
     falls = λ at l. rw (nulls m at) l;
@@ -153,12 +148,9 @@ module _ {f last earlier : List ℕ} {at : ℕ} (p : Passed f last earlier at) w
   passed-end h = p .left ∙ rw (fields-end countBytes f at h)
 
   module _ (h : at < length f) where
-    -- before the end, a whole line with a term stands here
+    -- before the end, a whole line stands here
     pub passed-line : Field countBytes f at
     passed-line = field-here countBytes f at (p .whole) h
-
-    pub passed-term : isTerm (termAt f at) ≡ true
-    passed-term = good-here countBytes f at h (p .good)
 
     -- its folded term, the chain where that is looked for, and the arrays once the line is put before that chain
     abbrev term : List ℕ
@@ -205,7 +197,7 @@ module _ {f last earlier : List ℕ} {at : ℕ} (p : Passed f last earlier at) w
         let s : 0 < at = omega (arith, p .behind 0) in
         rw (e, getD-set-same last (bucket term) at 0 l, has-more f t earlier′ falls′ at s, getD-set-same earlier at latest 0 r, chain-as (bucket term), ← e, p .held t)
 
-    -- a term of another bucket is not the line's, since equal terms have equal marks
+    -- a term of another bucket is not the line's, since equal terms have equal hashes
     held-other : (t : List ℕ) → (bucket t ≡ bucket term → ⊥) → hasTerm f t (chain earlier′ (getD last′ (bucket t) 0)) ≡ any (same t) (term ∷ p .seen)
     unfolding any
     held-other t n =
@@ -219,7 +211,6 @@ module _ {f last earlier : List ℕ} {at : ℕ} (p : Passed f last earlier at) w
       seen = term ∷ p .seen;
       left = repeats-here ∙ rw e;
       whole = whole-on countBytes f at (p .whole) h;
-      good = good-on countBytes f at h (p .good);
       chained = set-each (λ b x. Chained f earlier′ x) last (bucket term) at (chained-from at (λ l. passed-line)) (λ b. chained-from (getD last b 0) (p .chained b .start));
       behind = set-each (λ b x. x < pastField countBytes f at) last (bucket term) at (past-more countBytes f at) (λ b. omega (arith, p .behind b, past-more countBytes f at));
       held = λ t. by-eq (bucket t) (bucket term) (held-own t) (held-other t);

@@ -2,15 +2,15 @@
 -- Assumes nothing.
 use mathlib.Core.Path.{_≡_, refl, ap, _∙_}
 use mathlib.Core.Bool.{true, false}
-use mathlib.Core.List.{List, [], _∷_}
+use mathlib.Core.List.{List, [], _∷_, _++_}
 use Prim.Native.Nat.{ℕ, zero, suc, _<_}
 use native.Mathlib.Omega.{arith}
 use Rattle.basics.specs.Lists.{all}
 use Rattle.frames.specs.declared.Report.the-variants as report
 use Rattle.frames.specs.Refusals.{Row, _if_, firstOf}
-use Rattle.frames.specs.Frames.{countBytes, firstLine, lines, passesEnd, badTerm, zeroCount, repeatedTerm, headRows, reportRows, reportRefusal, reportAs, reportFrame}
+use Rattle.frames.specs.Frames.{countBytes, firstLine, lines, passesEnd, badTerm, zeroCount, repeatedTerm, headRows, fieldRows, reportRows, reportRefusal, reportAs, reportFrame}
 use Rattle.frames.proofs.Heads.{head-numbered}
-use Rattle.frames.proofs.Refusals.{Numbered, numbered, first-empty, first-holds, first-passes, first-some, first-none, first-zero}
+use Rattle.frames.proofs.Refusals.{Numbered, numbered, first-empty, first-holds, first-passes, first-some, first-none, first-zero, both-zero}
 
 as-refused : (n : ℕ) → 0 < n → reportAs n ≡ report.Refused n
 as-refused zero h = absurd (omega arith)
@@ -26,27 +26,48 @@ module _ (f : List ℕ) where
   row6 : Row
   row6 = 6 if zeroCount f (lines f)
 
-  row7 : Row
+  abbrev row7 : Row
   row7 = 7 if repeatedTerm f (lines f)
 
-  -- the rows behind those of the head
-  pub lineRows : List Row
-  lineRows = row4 ∷ row5 ∷ row6 ∷ row7 ∷ []
-
   pub report-numbered : Numbered (reportRows f)
-  unfolding reportRows headRows all
+  unfolding reportRows headRows fieldRows all
   report-numbered = numbered (reportRows f) refl
 
+  field-numbered : Numbered (fieldRows f)
+  unfolding fieldRows all
+  field-numbered = numbered (fieldRows f) refl
+
+  -- ---- the rows 4, 5 and 6
+
+  pub fields-cut : passesEnd countBytes f firstLine ≡ true → firstOf (fieldRows f) ≡ 4
+  unfolding fieldRows row4
+  fields-cut e = first-holds row4 _ e
+
+  module _ (w : passesEnd countBytes f firstLine ≡ false) where
+    pub fields-bad : badTerm f (lines f) ≡ true → firstOf (fieldRows f) ≡ 5
+    unfolding fieldRows row4 row5
+    fields-bad e = first-passes row4 _ w ∙ first-holds row5 _ e
+
+    module _ (t : badTerm f (lines f) ≡ false) where
+      pub fields-zero : zeroCount f (lines f) ≡ true → firstOf (fieldRows f) ≡ 6
+      unfolding fieldRows row4 row5 row6
+      fields-zero e = first-passes row4 _ w ∙ first-passes row5 _ t ∙ first-holds row6 _ e
+
+      pub fields-none : zeroCount f (lines f) ≡ false → firstOf (fieldRows f) ≡ 0
+      unfolding fieldRows row4 row5 row6
+      fields-none e = first-passes row4 _ w ∙ first-passes row5 _ t ∙ first-passes row6 _ e ∙ first-empty
+
   -- where none of them holds
-  pub none-holds : firstOf lineRows ≡ 0
-      → (passesEnd countBytes f firstLine ≡ false) × (badTerm f (lines f) ≡ false) × (zeroCount f (lines f) ≡ false) × (repeatedTerm f (lines f) ≡ false)
-  unfolding lineRows row4 row5 row6 row7
-  none-holds z =
+  pub no-field : firstOf (fieldRows f) ≡ 0
+      → (passesEnd countBytes f firstLine ≡ false) × (badTerm f (lines f) ≡ false) × (zeroCount f (lines f) ≡ false)
+  unfolding fieldRows row4 row5 row6
+  no-field z =
       let r₄ = first-zero row4 _ (omega arith) z in
       let r₅ = first-zero row5 _ (omega arith) (r₄ .1) in
-      let r₆ = first-zero row6 _ (omega arith) (r₅ .1) in
-      let r₇ = first-zero row7 [] (omega arith) (r₆ .1) in
-      (r₄ .0, r₅ .0, r₆ .0, r₇ .0)
+      let r₆ = first-zero row6 [] (omega arith) (r₅ .1) in
+      (r₄ .0, r₅ .0, r₆ .0)
+
+  -- ---- all rows of a report
 
   pub report-head : 0 < firstOf (headRows 1 f) → reportFrame f ≡ report.Refused (firstOf (headRows 1 f))
   unfolding reportFrame reportRefusal reportRows
@@ -54,41 +75,31 @@ module _ (f : List ℕ) where
 
   module _ (z : firstOf (headRows 1 f) ≡ 0) where
     -- where the head is right, the lines decide
-    pub lines-judged : reportRefusal f ≡ firstOf lineRows
-    unfolding reportRefusal reportRows lineRows row4 row5 row6 row7
+    pub lines-judged : reportRefusal f ≡ firstOf (fieldRows f ++ (row7 ∷ []))
+    unfolding reportRefusal reportRows
     lines-judged = first-none _ (head-numbered 1 f) z
 
-    pub report-cut : passesEnd countBytes f firstLine ≡ true → reportFrame f ≡ report.Refused 4
-    unfolding reportFrame lineRows row4
-    report-cut e = ap reportAs (lines-judged ∙ first-holds row4 _ e)
+    pub report-fields : 0 < firstOf (fieldRows f) → reportFrame f ≡ report.Refused (firstOf (fieldRows f))
+    unfolding reportFrame
+    report-fields h = ap reportAs (lines-judged ∙ first-some (fieldRows f) _ h) ∙ as-refused (firstOf (fieldRows f)) h
 
-    module _ (w : passesEnd countBytes f firstLine ≡ false) where
-      after-cut : reportRefusal f ≡ firstOf (row5 ∷ row6 ∷ row7 ∷ [])
-      unfolding lineRows row4
-      after-cut = lines-judged ∙ first-passes row4 _ w
+    module _ (n : firstOf (fieldRows f) ≡ 0) where
+      after-fields : reportRefusal f ≡ firstOf (row7 ∷ [])
+      after-fields = lines-judged ∙ first-none _ field-numbered n
 
-      pub report-bad : badTerm f (lines f) ≡ true → reportFrame f ≡ report.Refused 5
-      unfolding reportFrame row5
-      report-bad e = ap reportAs (after-cut ∙ first-holds row5 _ e)
+      pub report-repeats : repeatedTerm f (lines f) ≡ true → reportFrame f ≡ report.Refused 7
+      unfolding reportFrame
+      report-repeats e = ap reportAs (after-fields ∙ first-holds row7 _ e)
 
-      module _ (t : badTerm f (lines f) ≡ false) where
-        after-bad : reportRefusal f ≡ firstOf (row6 ∷ row7 ∷ [])
-        unfolding row5
-        after-bad = after-cut ∙ first-passes row5 _ t
+      pub report-sound : repeatedTerm f (lines f) ≡ false → reportFrame f ≡ report.Lines (record { at = firstLine })
+      unfolding reportFrame
+      report-sound e = ap reportAs (after-fields ∙ first-passes row7 _ e ∙ first-empty)
 
-        pub report-zero : zeroCount f (lines f) ≡ true → reportFrame f ≡ report.Refused 6
-        unfolding reportFrame row6
-        report-zero e = ap reportAs (after-bad ∙ first-holds row6 _ e)
-
-        module _ (n : zeroCount f (lines f) ≡ false) where
-          after-zero : reportRefusal f ≡ firstOf (row7 ∷ [])
-          unfolding row6
-          after-zero = after-bad ∙ first-passes row6 _ n
-
-          pub report-repeats : repeatedTerm f (lines f) ≡ true → reportFrame f ≡ report.Refused 7
-          unfolding reportFrame row7
-          report-repeats e = ap reportAs (after-zero ∙ first-holds row7 _ e)
-
-          pub report-sound : repeatedTerm f (lines f) ≡ false → reportFrame f ≡ report.Lines (record { at = firstLine })
-          unfolding reportFrame row7
-          report-sound e = ap reportAs (after-zero ∙ first-passes row7 _ e ∙ first-empty)
+  -- where no row holds
+  pub none-holds : reportRefusal f ≡ 0
+      → (firstOf (headRows 1 f) ≡ 0) × (firstOf (fieldRows f) ≡ 0) × (repeatedTerm f (lines f) ≡ false)
+  unfolding reportRefusal reportRows
+  none-holds z =
+      let h = both-zero _ (head-numbered 1 f) z in
+      let l = both-zero _ field-numbered (h .1) in
+      (h .0, l .0, first-zero row7 [] (omega arith) (l .1) .0)

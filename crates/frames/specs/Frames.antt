@@ -119,10 +119,12 @@ repeatedTerm f ats = repeatsAfter [] (map (foldedAt f) ats)
 unfoldable pub headRows : ℕ → List ℕ → List Row
 headRows k f = (1 if wrongVersion f) ∷ (2 if wrongLength f) ∷ (3 if wrongKind k f) ∷ []
 
+-- of a report's lines, but for repeated terms
+unfoldable pub fieldRows : List ℕ → List Row
+fieldRows f = (4 if passesEnd countBytes f firstLine) ∷ (5 if badTerm f (lines f)) ∷ (6 if zeroCount f (lines f)) ∷ []
+
 unfoldable pub reportRows : List ℕ → List Row
-reportRows f =
-    headRows 1 f
-    ++ ((4 if passesEnd countBytes f firstLine) ∷ (5 if badTerm f (lines f)) ∷ (6 if zeroCount f (lines f)) ∷ (7 if repeatedTerm f (lines f)) ∷ [])
+reportRows f = headRows 1 f ++ (fieldRows f ++ ((7 if repeatedTerm f (lines f)) ∷ []))
 
 -- kind 02 has exactly one term, kind 03 has 1 to 8
 unfoldable pub queryRows : ℕ → ℕ → List ℕ → List Row

@@ -1,3 +1,4 @@
 pub mod Refusals
 pub mod Frames
 pub mod Repeats
+pub mod Read

@@ -1,8 +1,8 @@
 // Reading a frame (document 01, "Frames"): refusals 1 to 7, and a cursor that hands out one line or term after another.
 ghost use mathlib.Core.Path.{_≡_};
 ghost use mathlib.Core.Bool.{true, false};
-ghost use Prim.Native.Nat.{ℕ, _+_, _≤_, _<_};
-ghost use lib.ListN.{length, getD};
+ghost use Prim.Native.Nat.{_+_, _≤_, _<_};
+ghost use lib.ListN.{length};
 ghost use Rattle.basics.specs.Lists.{any, same};
 ghost use Rattle.frames.specs.Refusals.{firstOf};
 ghost use Rattle.frames.specs.Frames.{
@@ -19,14 +19,16 @@ ghost use Rattle.frames.specs.Frames.{
   terms,
   passesEnd,
   badTerm,
-  zeroCount,
   repeatedTerm,
   foldedAt,
   headRows,
+  fieldRows,
+  reportRefusal,
   reportFrame,
   queryFrame,
 };
 ghost use Rattle.frames.specs.Repeats.{chain, Chained};
+ghost use Rattle.frames.specs.Read.{Folds, maxLines, Hashed, Read};
 
 // An offset of a frame at which a field starts, or the frame's end.
 pub struct Cursor {
@@ -55,6 +57,17 @@ impl Cursor {
         let from = at + 1;
         let to = from + basics::wide(frame[at]);
         &frame[from..to]
+    }
+
+    // The same folded, out of the frame's folded bytes.
+    pub fn name<'a>(self, frame: &[u8], names: &'a [u8]) -> &'a [u8]
+        requires { ⌜ Field 0 (now frame) (self .at) × Folds (now frame) (now names) ⌝ }
+        ensures { λ r. ⌜ now r ≡ foldedAt (now (frame .entry)) (self .at) ⌝ }
+    {
+        let at = self.at;
+        let from = at + 1;
+        let to = from + basics::wide(frame[at]);
+        &names[from..to]
     }
 
     // The count of the line here.
@@ -156,30 +169,46 @@ fn bad_term(frame: &[u8], from: usize, tail: usize) -> bool
     false
 }
 
-// Refusal 6: whether a count is 0.
-fn zero_count(frame: &[u8]) -> bool
-    requires { ⌜ passesEnd countBytes (now frame) firstLine ≡ false ⌝ }
-    ensures { λ r. ⌜ r ≡ zeroCount (now (frame .entry)) (lines (now (frame .entry))) ⌝ }
+// Refusals 4 to 6 of a report in one pass; 0 for none. Stores the hash of each line's folded term.
+fn read_lines(frame: &[u8], names: &[u8], hashes: &mut [u32]) -> u8
+    requires { ⌜ (length (now frame) ≤ maxBody + 3) × Folds (now frame) (now names) × (maxLines ≤ length (now hashes)) ⌝ }
+    ensures { λ r. ⌜ (r ≡ firstOf (fieldRows (now (frame .entry)))) × (r ≡ 0 → Hashed (now (frame .entry)) firstLine 0 (now (hashes .exit))) ⌝ }
 {
     let mut c = Cursor { at: 4 };
+    let mut n: usize = 0;
+    let mut bad = false;
+    let mut zero = false;
     while c.at < frame.len() {
-        if c.count(frame) == 0 {
-            return true;
+        let next = c.past(frame, 4);
+        if frame.len() < next.at {
+            return 4;
         }
-        c = c.past(frame, 4);
+        let line = terms::judge(c.name(frame, names));
+        hashes[n] = line.hash;
+        n += 1;
+        if !line.term {
+            bad = true;
+        }
+        if c.count(frame) == 0 {
+            zero = true;
+        }
+        c = next;
     }
-    false
+    if bad {
+        return 5;
+    }
+    if zero { 6 } else { 0 }
 }
 
 // Whether a line of the chain from `last` on has the folded term of the line at c.
-fn in_chain(frame: &[u8], earlier: &[u16; 4100], last: u16, c: Cursor) -> bool
-    requires { ⌜ Chained (now frame) (now earlier) last × Field countBytes (now frame) (c .at) ⌝ }
+fn in_chain(frame: &[u8], names: &[u8], earlier: &[u16; 4100], last: u16, c: Cursor) -> bool
+    requires { ⌜ Folds (now frame) (now names) × Chained (now frame) (now earlier) last × Field countBytes (now frame) (c .at) ⌝ }
     ensures { λ r. ⌜ r ≡ any (λ at. same (foldedAt (now (frame .entry)) (c .at)) (foldedAt (now (frame .entry)) at)) (chain (now (earlier .entry)) last) ⌝ }
 {
     let mut at = last as usize;
     while at != 0 {
         let line = Cursor { at };
-        if terms::same_folded(c.term(frame), line.term(frame)) {
+        if basics::same_bytes(c.name(frame, names), line.name(frame, names)) {
             return true;
         }
         at = earlier[at] as usize;
@@ -187,23 +216,25 @@ fn in_chain(frame: &[u8], earlier: &[u16; 4100], last: u16, c: Cursor) -> bool
     false
 }
 
-// Refusal 7: whether two lines have one folded term. Lines are chained by a mark of their folded terms, so that each is compared with few others.
-fn repeated_term(frame: &[u8]) -> bool
-    requires { ⌜ (length (now frame) ≤ maxBody + 3) × (passesEnd countBytes (now frame) firstLine ≡ false) × (badTerm (now frame) (lines (now frame)) ≡ false) ⌝ }
+// Refusal 7: whether two lines have one folded term. Lines are chained by the last byte of their hash, so that each is compared with few others.
+fn repeated_term(frame: &[u8], names: &[u8], hashes: &[u32]) -> bool
+    requires { ⌜ (length (now frame) ≤ maxBody + 3) × (passesEnd countBytes (now frame) firstLine ≡ false) × Read (now frame) (now names) (now hashes) ⌝ }
     ensures { λ r. ⌜ r ≡ repeatedTerm (now (frame .entry)) (lines (now (frame .entry))) ⌝ }
 {
     let mut last = [0u16; 256];
     let mut earlier = [0u16; 4100];
     let mut c = Cursor { at: 4 };
+    let mut n: usize = 0;
     while c.at < frame.len() {
         let at = c.at;
-        let bucket = (terms::mark(c.term(frame)) % 256) as usize;
+        let bucket = (hashes[n] % 256) as usize;
         let latest = last[bucket];
-        if in_chain(frame, &earlier, latest, c) {
+        if in_chain(frame, names, &earlier, latest, c) {
             return true;
         }
         earlier[at] = latest;
         last[bucket] = at as u16;
+        n += 1;
         c = c.past(frame, 4);
     }
     false
@@ -211,27 +242,33 @@ fn repeated_term(frame: &[u8]) -> bool
 
 // ---- the checks
 
-// A report's frame, kind 01.
-pub fn check_report(frame: &[u8]) -> Report
-    ensures { λ r. ⌜ r ≡ reportFrame (now (frame .entry)) ⌝ }
+// A report's frame, kind 01. Leaves its folded bytes and the hashes of its lines to the caller, who looks the lines up by them.
+pub fn read_report(frame: &[u8], names: &mut [u8], hashes: &mut [u32]) -> Report
+    requires { ⌜ (maxBody + 3 ≤ length (now names)) × (maxLines ≤ length (now hashes)) ⌝ }
+    ensures { λ r. ⌜ (r ≡ reportFrame (now (frame .entry))) × (reportRefusal (now (frame .entry)) ≡ 0 → Read (now (frame .entry)) (now (names .exit)) (now (hashes .exit))) ⌝ }
 {
     let head = check_head(frame, 1);
     if head != 0 {
         return Report::Refused(head);
     }
-    if passes_end(frame, 4, 4) {
-        return Report::Refused(4);
+    terms::fold(frame, names);
+    let fields = read_lines(frame, names, hashes);
+    if fields != 0 {
+        return Report::Refused(fields);
     }
-    if bad_term(frame, 4, 4) {
-        return Report::Refused(5);
-    }
-    if zero_count(frame) {
-        return Report::Refused(6);
-    }
-    if repeated_term(frame) {
+    if repeated_term(frame, names, hashes) {
         return Report::Refused(7);
     }
     Report::Lines(Cursor { at: 4 })
+}
+
+// The same for a caller that looks nothing up.
+pub fn check_report(frame: &[u8]) -> Report
+    ensures { λ r. ⌜ r ≡ reportFrame (now (frame .entry)) ⌝ }
+{
+    let mut names = [0u8; 4100];
+    let mut hashes = [0u32; 820];
+    read_report(frame, &mut names, &mut hashes)
 }
 
 // A query's frame of the given kind with at most `most` terms.

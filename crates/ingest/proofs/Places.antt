@@ -8,10 +8,7 @@ use native.Mathlib.Omega.{arith}
 use borrow.Author.Tests.{ltb-false}
 use lib.Dec.{ltb}
 use Rattle.basics.proofs.Lists.{or-left, or-right}
-use Rattle.terms.specs.Terms.{termOf, nameIn}
-use Rattle.terms.specs.declared.Term.{Term}
-use Rattle.terms.proofs.Laws.{termOf-folded, nameIn-termOf}
-use Rattle.frames.specs.Frames.{Line, countBytes, termAt, countAt, fields, lineAt}
+use Rattle.frames.specs.Frames.{Line, countBytes, countAt, fields, foldedAt, lineAt}
 use Rattle.blocks.specs.declared.Head.{Head}
 use Rattle.blocks.specs.Fields.{linkOf, headOf}
 use Rattle.blocks.specs.Writes.{fits, Appends}
@@ -85,48 +82,48 @@ pub record Known (a : List ℕ) (k : Counters) (w : List ℕ) (f h : ℕ) (fit :
   pub fine : Fine a k h (headOf a h)
   pub fitting : fits (headOf a h) (nextNumber k) f ≡ fit
 
-module _ (a table : List ℕ) (k : Counters) (t : Term) (f : ℕ) where
+module _ (a table : List ℕ) (k : Counters) (w : List ℕ) (f : ℕ) where
   abbrev pub Seat : Place → Type 0
   Seat Damaged = Unit
-  Seat (New s) = sought a (k .used) table t ≡ found.Unknown s
-  Seat (Stays h) = Known a k (nameIn t) f h true
-  Seat (Spills h) = Known a k (nameIn t) f h false
+  Seat (New s) = sought a (k .used) table w ≡ found.Unknown s
+  Seat (Stays h) = Known a k w f h true
+  Seat (Spills h) = Known a k w f h false
 
-  seat-at : (h : ℕ) → sought a (k .used) table t ≡ found.At h → Seat (placeAt a k f h)
+  seat-at : (h : ℕ) → sought a (k .used) table w ≡ found.At h → Seat (placeAt a k f h)
   seat-at h e = go (damagedHead a k h (headOf a h)) (fits (headOf a h) (nextNumber k) f) refl refl
     where
-      known : (b : Bool) → damagedHead a k h (headOf a h) ≡ false → fits (headOf a h) (nextNumber k) f ≡ b → Known a k (nameIn t) f h b
-      known b p q = record { stands = search-at a (k .used) table t h e; fine = head-fine a k h (headOf a h) p; fitting = q }
+      known : (b : Bool) → damagedHead a k h (headOf a h) ≡ false → fits (headOf a h) (nextNumber k) f ≡ b → Known a k w f h b
+      known b p q = record { stands = search-at a (k .used) table w h e; fine = head-fine a k h (headOf a h) p; fitting = q }
 
       go : (x b : Bool) → damagedHead a k h (headOf a h) ≡ x → fits (headOf a h) (nextNumber k) f ≡ b → Seat (placeAt a k f h)
       go true b p q = rw (at-damaged a k f h p) tt
       go false true p q = rw (at-stays a k f h p q) (known true p q)
       go false false p q = rw (at-spills a k f h p q) (known false p q)
 
-  seat-found : (r : Found) → sought a (k .used) table t ≡ r → Seat (placed a k f r)
+  seat-found : (r : Found) → sought a (k .used) table w ≡ r → Seat (placed a k f r)
   unfolding placed
   seat-found (found.At h) e = seat-at h e
   seat-found (found.Unknown s) e = e
   seat-found found.Damaged e = tt
 
   -- of the place that a search leads to
-  pub seat : (p : Place) → p ≡ placed a k f (sought a (k .used) table t) → Seat p
-  seat p e = rw e (seat-found (sought a (k .used) table t) refl)
+  pub seat : (p : Place) → p ≡ placed a k f (sought a (k .used) table w) → Seat p
+  seat p e = rw e (seat-found (sought a (k .used) table w) refl)
 
--- ---- the line at an offset of a frame, its term folded from the frame itself
+-- ---- the line at an offset of a frame
 
 -- the lines from there on
 abbrev pub linesFrom : List ℕ → ℕ → List Line
 linesFrom f at = map (lineAt f) (fields countBytes f at)
 
--- t and n are its folded term and its count, s its bytes
-module _ (f : List ℕ) (at : ℕ) {s : List ℕ} {t : Term} {n : ℕ} (b : s ≡ termAt f at) (e : t ≡ termOf s) (q : n ≡ countAt f at) where
+-- w and n are its folded term and its count
+module _ (f : List ℕ) (at : ℕ) {w : List ℕ} {n : ℕ} (b : w ≡ foldedAt f at) (q : n ≡ countAt f at) where
   -- its place
-  pub read-place : (m : Memory) → placed (m .arena) (m .counters) n (sought (m .arena) (m .counters .used) (m .table) t) ≡ placeOf m (lineAt f at)
+  pub read-place : (m : Memory) → placed (m .arena) (m .counters) n (sought (m .arena) (m .counters .used) (m .table) w) ≡ placeOf m (lineAt f at)
   unfolding placeOf lineAt
-  read-place m = rw (q, e, b, termOf-folded (termAt f at))
+  read-place m = rw (q, b)
 
   -- the line itself
-  pub read-line : lineOf t n ≡ lineAt f at
+  pub read-line : lineOf w n ≡ lineAt f at
   unfolding lineAt
-  read-line = rw (q, e, b, nameIn-termOf (termAt f at))
+  read-line = rw (q, b)

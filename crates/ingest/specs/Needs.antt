@@ -3,8 +3,8 @@ use Prim.Native.Nat.{ℕ, _+_, _≤_, _<_}
 use mathlib.Core.Path.{_≡_}
 use mathlib.Core.Bool.{_||_}
 use mathlib.Core.List.{List, [], _∷_}
+use lib.ListN.{length}
 use Rattle.terms.specs.Terms.{maxTerm}
-use Rattle.terms.specs.declared.Term.{Term}
 use Rattle.frames.specs.Refusals.{firstOf}
 use Rattle.lookup.specs.Lookup.{search}
 use Rattle.blocks.specs.Fields.{maxWord, capacity}
@@ -26,10 +26,10 @@ pub record Held (a table : List ℕ) (k : Counters) : Type 0 where
   pub few : k .terms ≤ maxTerms table
 
 -- a line that has been judged on its own: its place is the one found, and neither 10, 11 nor 12 holds
-pub record Writable (a table : List ℕ) (k : Counters) (t : Term) (f : ℕ) (p : Place) : Type 0 where
+pub record Writable (a table : List ℕ) (k : Counters) (w : List ℕ) (f : ℕ) (p : Place) : Type 0 where
   pub held : Held a table k
-  pub short : t .length ≤ maxTerm
-  pub found : p ≡ placed a k f (search a (k .used) table t)
+  pub short : length w ≤ maxTerm
+  pub found : p ≡ placed a k f (search a (k .used) table w)
   pub judged : firstOf (planRows (memory a table k) (planOf (p ∷ []))) ≡ 0
 
 -- a plan with one line more

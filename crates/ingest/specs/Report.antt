@@ -4,8 +4,6 @@ use mathlib.Core.List.{List, [], _∷_, _++_, map}
 use mathlib.Core.Bool.{Bool, true, false, cond, _||_}
 use lib.Dec.{ltb, eqb}
 use Rattle.basics.specs.Lists.{any}
-use Rattle.terms.specs.Terms.{termOf, nameIn}
-use Rattle.terms.specs.declared.Term.{Term}
 use Rattle.frames.specs.Refusals.{Row, _if_, firstOf}
 use Rattle.frames.specs.Frames.{Line, reportRows, reportLines}
 use Rattle.blocks.specs.declared.Head.{Head}
@@ -28,8 +26,8 @@ abbrev pub nextNumber : Counters → ℕ
 nextNumber k = k .reports + 1
 
 -- the line of a folded term
-abbrev pub lineOf : Term → ℕ → Line
-lineOf t f = record { term = nameIn t; count = f }
+abbrev pub lineOf : List ℕ → ℕ → Line
+lineOf w f = record { term = w; count = f }
 
 -- ---- where a line goes
 
@@ -50,8 +48,7 @@ placed a k f (found.Unknown s) = New s
 placed a k f found.Damaged = Damaged
 
 unfoldable pub placeOf : Memory → Line → Place
-placeOf m l =
-    placed (m .arena) (m .counters) (l .count) (search (m .arena) (m .counters .used) (m .table) (termOf (l .term)))
+placeOf m l = placed (m .arena) (m .counters) (l .count) (search (m .arena) (m .counters .used) (m .table) (l .term))
 
 -- ---- what the lines need, each on its own: a term more where it is unknown, and a block more there or where the posting does not fit
 

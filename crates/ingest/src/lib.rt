@@ -1,8 +1,10 @@
 // Taking a report (document 01, "Taking a report"): all lines are judged before a byte is written.
 ghost use mathlib.Core.Path.{_≡_};
 ghost use Prim.Native.Nat.{_+_, _≤_, _<_};
-ghost use Rattle.terms.specs.Terms.{maxTerm};
+ghost use lib.ListN.{length};
+ghost use Rattle.terms.specs.Terms.{maxTerm, fnv1a};
 ghost use Rattle.frames.specs.Frames.{maxBody, reportRefusal, reportLines};
+ghost use Rattle.frames.specs.Read.{Read};
 ghost use Rattle.frames.specs.Refusals.{firstOf};
 ghost use Rattle.blocks.specs.Fields.{maxWord};
 ghost use Rattle.lookup.specs.Lookup.{search};
@@ -14,7 +16,6 @@ use counters::Counters;
 use frames::Cursor;
 use frames::Report;
 use lookup::Found;
-use terms::Term;
 
 #[repr(C)]
 pub struct ReportAnswer {
@@ -82,11 +83,11 @@ fn place_at(arena: &[u8], k: Counters, count: u32, h: u32) -> Place
     Place::Spills(h)
 }
 
-fn place_of(arena: &[u8], table: &[u32], k: Counters, term: Term, count: u32) -> Place
-    requires { ⌜ Room (now arena) k × (term .length ≤ maxTerm) ⌝ }
-    ensures { λ r. ⌜ r ≡ placed (now (arena .entry)) k count (search (now (arena .entry)) (k .used) (now (table .entry)) term) ⌝ }
+fn place_of(arena: &[u8], table: &[u32], k: Counters, name: &[u8], hash: u32, count: u32) -> Place
+    requires { ⌜ Room (now arena) k × (length (now name) ≤ maxTerm) × (hash ≡ fnv1a (now name)) ⌝ }
+    ensures { λ r. ⌜ r ≡ placed (now (arena .entry)) k count (search (now (arena .entry)) (k .used) (now (table .entry)) (now (name .entry))) ⌝ }
 {
-    match lookup::find(arena, k.used, table, term) {
+    match lookup::find(arena, k.used, table, name, hash) {
         Found::Damaged => Place::Damaged,
         Found::Unknown(s) => Place::New(s),
         Found::At(h) => place_at(arena, k, count, h),
@@ -119,8 +120,15 @@ fn with_place(plan: Plan, p: Place) -> Plan
     }
 }
 
-fn plan_lines(arena: &[u8], table: &[u32], k: Counters, frame: &[u8]) -> Plan
-    requires { ⌜ Room (now arena) k × (reportRefusal (now frame) ≡ 0) ⌝ }
+fn plan_lines(
+    arena: &[u8],
+    table: &[u32],
+    k: Counters,
+    frame: &[u8],
+    names: &[u8],
+    hashes: &[u32],
+) -> Plan
+    requires { ⌜ Room (now arena) k × (reportRefusal (now frame) ≡ 0) × Read (now frame) (now names) (now hashes) ⌝ }
     ensures { λ r. ⌜ (r ≡ linesPlan (memory (now (arena .entry)) (now (table .entry)) k) (reportLines (now (frame .entry)))) × (r .terms ≤ maxBody) ⌝ }
 {
     let mut plan = Plan {
@@ -129,9 +137,12 @@ fn plan_lines(arena: &[u8], table: &[u32], k: Counters, frame: &[u8]) -> Plan
         blocks: 0,
     };
     let mut c = Cursor { at: 4 };
+    let mut n: usize = 0;
     while c.at < frame.len() {
-        let p = place_of(arena, table, k, terms::fold(c.term(frame)), c.count(frame));
+        let hash = hashes[n];
+        let p = place_of(arena, table, k, c.name(frame, names), hash, c.count(frame));
         plan = with_place(plan, p);
+        n += 1;
         c = c.past(frame, 4);
     }
     plan
@@ -161,12 +172,12 @@ fn write_line(
     arena: &mut [u8],
     table: &mut [u32],
     k: Counters,
-    term: Term,
+    name: &[u8],
     count: u32,
     p: Place,
 ) -> Counters
-    requires { ⌜ Writable (now arena) (now table) k term count p ⌝ }
-    ensures { λ r. ⌜ memory (now (arena .exit)) (now (table .exit)) r ≡ written (memory (now (arena .entry)) (now (table .entry)) k) (k .reports + 1) (lineOf term count) p ⌝ }
+    requires { ⌜ Writable (now arena) (now table) k (now name) count p ⌝ }
+    ensures { λ r. ⌜ memory (now (arena .exit)) (now (table .exit)) r ≡ written (memory (now (arena .entry)) (now (table .entry)) k) (k .reports + 1) (lineOf (now (name .entry)) count) p ⌝ }
 {
     let number = k.reports + 1;
     let used = k.used;
@@ -187,7 +198,7 @@ fn write_line(
             }
         }
         Place::New(s) => {
-            blocks::open_head(arena, used, term, number, count);
+            blocks::open_head(arena, used, name, number, count);
             lookup::enter_at(table, s, used);
             Counters {
                 used: used + 1,
@@ -199,16 +210,25 @@ fn write_line(
 }
 
 // The lines in frame order, each judged afresh when its turn comes.
-fn write_lines(arena: &mut [u8], table: &mut [u32], k: Counters, frame: &[u8]) -> Written
-    requires { ⌜ Held (now arena) (now table) k × (reportRefusal (now frame) ≡ 0) ⌝ }
+fn write_lines(
+    arena: &mut [u8],
+    table: &mut [u32],
+    k: Counters,
+    frame: &[u8],
+    names: &[u8],
+    hashes: &[u32],
+) -> Written
+    requires { ⌜ Held (now arena) (now table) k × (reportRefusal (now frame) ≡ 0) × Read (now frame) (now names) (now hashes) ⌝ }
     ensures { λ r. ⌜ wroteAs (memory (now (arena .exit)) (now (table .exit)) (r .counters)) (r .stopped) ≡ writeLines (memory (now (arena .entry)) (now (table .entry)) k) (k .reports + 1) (reportLines (now (frame .entry))) ⌝ }
 {
     let mut left = k;
     let mut c = Cursor { at: 4 };
+    let mut n: usize = 0;
     while c.at < frame.len() {
-        let term = terms::fold(c.term(frame));
+        let hash = hashes[n];
+        let name = c.name(frame, names);
         let count = c.count(frame);
-        let p = place_of(arena, table, left, term, count);
+        let p = place_of(arena, table, left, name, hash, count);
         let plan = with_place(
             Plan {
                 damaged: false,
@@ -223,7 +243,8 @@ fn write_lines(arena: &mut [u8], table: &mut [u32], k: Counters, frame: &[u8]) -
                 counters: left,
             };
         }
-        left = write_line(arena, table, left, term, count, p);
+        left = write_line(arena, table, left, name, count, p);
+        n += 1;
         c = c.past(frame, 4);
     }
     Written {
@@ -244,8 +265,15 @@ fn refused(refusal: u8, k: Counters) -> Taken
 }
 
 // Refusals 8 to 12 of a sound frame; 0 for none.
-fn judge_report(arena: &[u8], table: &[u32], k: Counters, frame: &[u8]) -> u8
-    requires { ⌜ reportRefusal (now frame) ≡ 0 ⌝ }
+fn judge_report(
+    arena: &[u8],
+    table: &[u32],
+    k: Counters,
+    frame: &[u8],
+    names: &[u8],
+    hashes: &[u32],
+) -> u8
+    requires { ⌜ (reportRefusal (now frame) ≡ 0) × Read (now frame) (now names) (now hashes) ⌝ }
     ensures { λ r. ⌜ r ≡ callRefusal (memory (now (arena .entry)) (now (table .entry)) k) (now (frame .entry)) ⌝ }
 {
     if counters::are_wrong(arena, table, k) {
@@ -254,7 +282,8 @@ fn judge_report(arena: &[u8], table: &[u32], k: Counters, frame: &[u8]) -> u8
     if k.reports == 4294967295 {
         return 9;
     }
-    judge(arena, table, k, plan_lines(arena, table, k, frame))
+    let plan = plan_lines(arena, table, k, frame, names, hashes);
+    judge(arena, table, k, plan)
 }
 
 // Takes a report: the answer, and the counters that the call leaves.
@@ -263,14 +292,16 @@ pub fn take_report(arena: &mut [u8], table: &mut [u32], k: Counters, frame: &[u8
         × (now (arena .exit) ≡ reportCall (memory (now (arena .entry)) (now (table .entry)) k) (now (frame .entry)) .left .arena)
         × (now (table .exit) ≡ reportCall (memory (now (arena .entry)) (now (table .entry)) k) (now (frame .entry)) .left .table) ⌝ }
 {
-    match frames::check_report(frame) {
+    let mut names = [0u8; 4100];
+    let mut hashes = [0u32; 820];
+    match frames::read_report(frame, &mut names, &mut hashes) {
         Report::Refused(n) => refused(n, k),
         Report::Lines(_) => {
-            let refusal = judge_report(arena, table, k, frame);
+            let refusal = judge_report(arena, table, k, frame, &names, &hashes);
             if refusal != 0 {
                 return refused(refusal, k);
             }
-            let w = write_lines(arena, table, k, frame);
+            let w = write_lines(arena, table, k, frame, &names, &hashes);
             let left = w.counters;
             if w.stopped {
                 return refused(13, left);

@@ -4,9 +4,7 @@ use mathlib.Core.Path.{_≡_, sym, ap, _∙_}
 use mathlib.Core.List.{List}
 use Prim.Native.Nat.{ℕ}
 use lib.ListN.{length, length-replicate}
-use Rattle.terms.specs.Terms.{termOf}
 use Rattle.chains.specs.Chains.{whole}
-use Rattle.lookup.proofs.Table.{seeks-termOf}
 use Rattle.counters.specs.Counters.{Memory}
 use Rattle.ingest.specs.Report.{reportCall}
 use Rattle.query.specs.Listing.{readFound, readTerm}
@@ -26,8 +24,8 @@ pub record Carried (b e : ℕ) (m : Memory) (rs : List Report) : Type 0 where
   pub arena-is : length (m .arena) ≡ b
   pub table-is : length (m .table) ≡ e
 
--- a folded term is looked up and read as the ledger has it
-reads-as : {m : Memory} {rs : List Report} (w : List ℕ) → Looks m rs (termOf w) w → readTerm m w ≡ whole (postingsOf rs w)
+-- a term is looked up and read as the ledger has it
+reads-as : {m : Memory} {rs : List Report} (w : List ℕ) → Looks m rs w → readTerm m w ≡ whole (postingsOf rs w)
 unfolding readTerm readFound
 reads-as {m} w (at h n s c) = ap (readFound m) s ∙ c
 reads-as {m} w (off k n s e) = ap (readFound m) s ∙ ap whole (sym e)
@@ -36,7 +34,7 @@ reads-of : {b e : ℕ} {m : Memory} {rs : List Report} → Carried b e m rs → 
 reads-of {m} {rs} c =
     record {
       right = counters-right (c .stands);
-      reads = λ w t q. reads-as w (looks (c .stands) (termOf w) w (rw q at (seeks-termOf w)));
+      reads = λ w. reads-as w (looks (c .stands) w);
       distinct = c .distinct;
     }
 

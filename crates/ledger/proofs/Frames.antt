@@ -13,7 +13,7 @@ use Rattle.basics.specs.Words.{wordAt}
 use Rattle.basics.specs.Lists.{any, same}
 use Rattle.basics.proofs.Lists.{or-left, or-right}
 use Rattle.terms.specs.Terms.{isTerm}
-use Rattle.terms.proofs.Laws.{length-folded, folded-folded, term-length}
+use Rattle.terms.proofs.Laws.{length-folded, term-length}
 use Rattle.frames.specs.Frames.{termAt, countAt, lines, badTerm, zeroCount, repeatsAfter, foldedAt, repeatedTerm, reportRefusal, lineAt, reportLines}
 use Rattle.frames.proofs.Laws.{SoundReport, sound-report}
 use Rattle.blocks.specs.Fields.{maxWord}
@@ -30,7 +30,6 @@ module _ (f : List ℕ) (bytes : Bytes f) where
   unfolding lineAt
   good-line at e z =
       record {
-        is-folded = folded-folded (termAt f at);
         short = rw (length-folded (termAt f at)) (term-length (termAt f at) e .1);
         count-pos = by-eq (countAt f at) 0 (λ q. absurd (eqb-false (countAt f at) 0 z q)) (λ q. omega arith);
         count-small = count-small at;

@@ -8,7 +8,6 @@ use native.Mathlib.Omega.{arith}
 use lib.ListN.{length}
 use lib.Seq.{map-set-same}
 use borrow.Author.Tests.{ltb-true, ltb-false}
-use Rattle.terms.specs.Terms.{termOf}
 use Rattle.frames.specs.Frames.{Line}
 use Rattle.blocks.specs.declared.Head.{Head}
 use Rattle.blocks.specs.Fields.{maxWord, capacity, place, headOf}
@@ -34,7 +33,7 @@ use Rattle.ledger.proofs.Ask.{ask-known, ask-unknown}
 use Rattle.ledger.proofs.Holds.{held, line-after, term-after}
 use Rattle.ledger.proofs.Plan.{blockOf, needs, noneOf, news}
 use Rattle.ledger.proofs.Rep as rep
-use Rattle.ledger.proofs.Rep.{Rep, entryOf, entriesOf, nth-entry, length-entries, lacks, Goes, goes, seeks-line}
+use Rattle.ledger.proofs.Rep.{Rep, entryOf, entriesOf, nth-entry, length-entries, lacks, Goes, goes}
 
 -- memory m′ stands for the index, and is as long as m
 pub record Wrote (m m′ : Memory) (ix : Index) (n : ℕ) : Type 0 where
@@ -132,7 +131,7 @@ module _ {m : Memory} {ix : Index} {n : ℕ} (r : Rep m ix n) (l : Line) (g : Go
         append-rep h (m .counters .used + 1) (rw (used-posting ix here (posting (n + 1) l), f) (omega (arith, r .used-is))) _ (rw (fits-is, f))
 
   -- of a new one
-  opens-rep : knows (ix .terms) (l .term) ≡ false → (s : ℕ) → search (m .arena) (m .counters .used) (m .table) (termOf (l .term)) ≡ found.Unknown s
+  opens-rep : knows (ix .terms) (l .term) ≡ false → (s : ℕ) → search (m .arena) (m .counters .used) (m .table) (l .term) ≡ found.Unknown s
       → suc (usedOf ix) ≤ capacity (m .arena) → suc (length (ix .terms)) ≤ maxTerms (m .table)
       → Wrote m (written m (n + 1) l (New s)) (withTerm ix (l .term) (posting (n + 1) l)) n
   unfolding written maxTerms
@@ -148,7 +147,7 @@ module _ {m : Memory} {ix : Index} {n : ℕ} (r : Rep m ix n) (l : Line) (g : Go
         named = opens-name (m .arena) ix (r .image) (r .linked) (l .term) p (g .short) af (room (m .arena) (suc (usedOf ix)) h);
       } in
       let tb : Tab a′ (usedOf ix′) (enter (m .table) s (usedOf ix)) (entriesOf ix ++ (k ∷ [])) =
-      tab-enter (tab-onward a′ ix′ (r .tab) o) k (lacks ix (l .term) e) st (rw (length-entries ix) (omega arith)) (m .arena) (m .counters .used) (termOf (l .term)) s (seeks-line r l g low) q in
+      tab-enter (tab-onward a′ ix′ (r .tab) o) k (lacks ix (l .term) e) st (rw (length-entries ix) (omega arith)) (m .arena) (m .counters .used) s q in
       let go : Wrote m (memory a′ (enter (m .table) s (usedOf ix)) (record { used = usedOf ix + 1; terms = m .counters .terms + 1; reports = m .counters .reports })) ix′ n =
       record {
         rep = record {

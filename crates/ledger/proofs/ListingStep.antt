@@ -1,20 +1,18 @@
 -- The listing calls answer as the ledger does, on a memory in which every term reads as the ledger's postings of it.
 -- Assumes nothing.
 use mathlib.Core.Path.{_≡_, refl, sym, ap, _∙_}
-use mathlib.Core.Bool.{true, false, not}
+use mathlib.Core.Bool.{false}
 use mathlib.Core.List.{List, [], _∷_, map}
 use Prim.Native.Nat.{ℕ}
 use native.Mathlib.Omega.{arith}
 use lib.Dec.{ltb, eqb}
 use lib.ListN.{length}
-use borrow.Author.Tests.{not-false, eqb-false, eq-eqb, ne-eqb}
+use borrow.Author.Tests.{eqb-false, eq-eqb, ne-eqb}
 use Rattle.basics.specs.Lists.{any}
 use Rattle.basics.proofs.Cases.{by-eq}
 use Rattle.basics.proofs.Lists.{or-left, or-right}
-use Rattle.terms.specs.Terms.{isTerm, folded}
-use Rattle.terms.proofs.Laws.{folded-folded, isTerm-folded}
 use Rattle.frames.specs.Refusals.{_if_}
-use Rattle.frames.specs.Frames.{firstTerm, termAt, terms, foldedAt, passesEnd, wrongTerms, badTerm, queryRows, queryRefusal, queryStart, queryTerms}
+use Rattle.frames.specs.Frames.{firstTerm, terms, foldedAt, passesEnd, wrongTerms, queryRows, queryRefusal, queryStart, queryTerms}
 use Rattle.frames.proofs.Refusals.{first-empty, first-passes, first-some, first-none}
 use Rattle.frames.proofs.Laws.{SoundQuery, sound-query, query-numbered}
 use Rattle.chains.specs.Chains.{whole, isWhole}
@@ -25,10 +23,10 @@ use Rattle.ledger.specs.Ledger.{Report, postingsOf, listed}
 use Rattle.ledger.specs.Calls.{ledgerOne, ledgerAll}
 use Rattle.ledger.proofs.Listing.{Distinct, common-listed}
 
--- every folded term reads as its postings, and no report names a term twice
+-- every term reads as its postings, and no report names a term twice
 pub record Reads (m : Memory) (rs : List Report) : Type 0 where
   pub right : wrongCounters (m .arena) (m .table) (m .counters) ≡ false
-  pub reads : (w : List ℕ) → isTerm w ≡ true → folded w ≡ w → readTerm m w ≡ whole (postingsOf rs w)
+  pub reads : (w : List ℕ) → readTerm m w ≡ whole (postingsOf rs w)
   pub distinct : Distinct rs
 
 -- a sound query names at least one term
@@ -40,52 +38,42 @@ some-term most f e =
     eqb-false (length (terms f)) 0 (or-left (eqb (length (terms f)) 0) _ d)
 
 module _ {m : Memory} {rs : List Report} (h : Reads m rs) (f : List ℕ) where
-  -- a field that is a term reads as its folded term's postings
-  field-reads : (at : ℕ) → not (isTerm (termAt f at)) ≡ false → readTerm m (foldedAt f at) ≡ whole (postingsOf rs (foldedAt f at))
-  field-reads at e =
-      h .reads (foldedAt f at) (isTerm-folded (termAt f at) ∙ not-false (isTerm (termAt f at)) e) (folded-folded (termAt f at))
-
-  -- so none of the terms is damaged
-  none-damaged : (ats : List ℕ) → badTerm f ats ≡ false → damagedTerms m (map (foldedAt f) ats) ≡ false
-  unfolding badTerm damagedTerms any isWhole
-  none-damaged [] e = refl
-  none-damaged (at ∷ ats) e =
-      let q = field-reads at (or-left (not (isTerm (termAt f at))) _ e) in
-      rw q (none-damaged ats (or-right (not (isTerm (termAt f at))) _ e))
+  -- none of the terms is damaged
+  none-damaged : (ws : List (List ℕ)) → damagedTerms m ws ≡ false
+  unfolding damagedTerms any isWhole
+  none-damaged [] = refl
+  none-damaged (w ∷ ws) = rw (h .reads w) (none-damaged ws)
 
   -- and their postings are the ledger's
-  all-read : (ats : List ℕ) → badTerm f ats ≡ false → map (query.postingsOf m) (map (foldedAt f) ats) ≡ map (postingsOf rs) (map (foldedAt f) ats)
-  unfolding badTerm any query.postingsOf postingsIn
-  all-read [] e = refl
-  all-read (at ∷ ats) e =
-      let q = field-reads at (or-left (not (isTerm (termAt f at))) _ e) in
-      rw (q, all-read ats (or-right (not (isTerm (termAt f at))) _ e))
+  all-read : (ws : List (List ℕ)) → map (query.postingsOf m) ws ≡ map (postingsOf rs) ws
+  unfolding query.postingsOf postingsIn
+  all-read [] = refl
+  all-read (w ∷ ws) = rw (h .reads w, all-read ws)
 
   -- refusals 8 and 10 do not come
   pub refusal-agrees : (k most : ℕ) → listRefusal k most m f ≡ queryRefusal k most f
   unfolding listRefusal listRows queryRefusal queryTerms
   refusal-agrees k most =
       by-eq (queryRefusal k most f) 0
-      (λ z. let s : SoundQuery most f = sound-query k most f z in
-      first-none _ (query-numbered k most f) z
+      (λ z. first-none _ (query-numbered k most f) z
       ∙ first-passes (8 if wrongCounters (m .arena) (m .table) (m .counters)) _ (h .right)
-      ∙ first-passes (10 if damagedTerms m (map (foldedAt f) (terms f))) [] (none-damaged (terms f) (s .good))
+      ∙ first-passes (10 if damagedTerms m (map (foldedAt f) (terms f))) [] (none-damaged (map (foldedAt f) (terms f)))
       ∙ first-empty
       ∙ sym z)
       (λ n. first-some (queryRows k most f) _ (omega arith))
 
   -- the reports listed are the ledger's
-  common-agrees : (start : ℕ) (ats : List ℕ) → (length ats ≡ 0 → ⊥) → badTerm f ats ≡ false
+  common-agrees : (start : ℕ) (ats : List ℕ) → (length ats ≡ 0 → ⊥)
       → common start (map (query.postingsOf m) (map (foldedAt f) ats)) ≡ listed rs start (map (foldedAt f) ats)
-  common-agrees start [] n e = absurd (n refl)
-  common-agrees start (at ∷ ats) n e =
-      ap (common start) (all-read (at ∷ ats) e) ∙ common-listed start (foldedAt f at) (map (foldedAt f) ats) (h .distinct)
+  common-agrees start [] n = absurd (n refl)
+  common-agrees start (at ∷ ats) n =
+      ap (common start) (all-read (map (foldedAt f) (at ∷ ats))) ∙ common-listed start (foldedAt f at) (map (foldedAt f) ats) (h .distinct)
 
   pub matches-agree : (k most : ℕ) → queryRefusal k most f ≡ 0 → matches m f ≡ listed rs (queryStart f) (queryTerms f)
   unfolding matches queryTerms
   matches-agree k most z =
       let s : SoundQuery most f = sound-query k most f z in
-      common-agrees (queryStart f) (terms f) (some-term most f (s .right)) (s .good)
+      common-agrees (queryStart f) (terms f) (some-term most f (s .right))
 
   -- the calls
   pub one-agrees : (numbers counts : List ℕ) → listOneCall m f numbers counts ≡ ledgerOne rs f numbers counts

@@ -8,13 +8,11 @@ use native.Mathlib.Omega.{arith}
 use lib.ListN.{length}
 use borrow.Author.Tests.{ltb-true, ltb-false}
 use Rattle.basics.specs.Lists.{any, same}
-use Rattle.terms.specs.declared.Term.{Term}
 use Rattle.frames.specs.Refusals.{Row, _if_, firstOf}
-use Rattle.frames.specs.Frames.{headRows, reportRows}
+use Rattle.frames.specs.Frames.{headRows, fieldRows, reportRows}
 use Rattle.chains.specs.Chains.{whole, chainOf}
 use Rattle.lookup.specs.Lookup.{search}
 use Rattle.lookup.specs.declared.Found.the-variants as found
-use Rattle.lookup.proofs.Table.{Seeks}
 use Rattle.counters.specs.Counters.{Memory}
 use Rattle.layout.specs.Held.{postingsOf as postingsIn, headNo}
 use Rattle.layout.specs.Index.{termAt}
@@ -32,27 +30,27 @@ pub names-known : (rs : List Report) (w : List ℕ) → any (same w) (names rs) 
 names-known rs w = ap (any (same w)) (sym (grown-names rs)) ∙ named-known w (grown rs .terms)
 
 -- the search for a term of name w: at a head whose chain reads as the ledger's postings, or unknown and the ledger has none
-pub data Looks (m : Memory) (rs : List Report) (t : Term) (w : List ℕ) : Type 0 where
-  at : (h : ℕ) → any (same w) (names rs) ≡ true → search (m .arena) (m .counters .used) (m .table) t ≡ found.At h
-      → chainOf (m .arena) (m .counters .used) (m .counters .reports) h ≡ whole (postingsOf rs w) → Looks m rs t w
-  off : (s : ℕ) → any (same w) (names rs) ≡ false → search (m .arena) (m .counters .used) (m .table) t ≡ found.Unknown s
-      → postingsOf rs w ≡ [] → Looks m rs t w
+pub data Looks (m : Memory) (rs : List Report) (w : List ℕ) : Type 0 where
+  at : (h : ℕ) → any (same w) (names rs) ≡ true → search (m .arena) (m .counters .used) (m .table) w ≡ found.At h
+      → chainOf (m .arena) (m .counters .used) (m .counters .reports) h ≡ whole (postingsOf rs w) → Looks m rs w
+  off : (s : ℕ) → any (same w) (names rs) ≡ false → search (m .arena) (m .counters .used) (m .table) w ≡ found.Unknown s
+      → postingsOf rs w ≡ [] → Looks m rs w
 
 module _ {m : Memory} {rs : List Report} (s : StandsFor m rs) where
-  looks-as : (b : Bool) (t : Term) (w : List ℕ) → Seeks t w → knows (grown rs .terms) w ≡ b → Looks m rs t w
-  looks-as true t w k e =
+  looks-as : (b : Bool) (w : List ℕ) → knows (grown rs .terms) w ≡ b → Looks m rs w
+  looks-as true w e =
       let i : ℕ = find w (grown rs .terms) in
       let hi : i < length (grown rs .terms) = ltb-true _ _ e in
       let q : postingsIn (termAt (grown rs) i) ≡ postingsOf rs w = sym (ask-known postingsIn [] w (grown rs .terms) hi) ∙ grown-held rs w in
-      at (headNo (termAt (grown rs) i)) (names-known rs w ∙ e) (search-known (s .rep) t w k e)
+      at (headNo (termAt (grown rs) i)) (names-known rs w ∙ e) (search-known (s .rep) w e)
       (rep-reads (s .rep) i hi (rw q (last-le rs w)) ∙ ap whole q)
-  looks-as false t w k e =
-      let o = search-unknown (s .rep) t w k e in
+  looks-as false w e =
+      let o = search-unknown (s .rep) w e in
       off (o .0) (names-known rs w ∙ e) (o .1) (sym (grown-held rs w) ∙ ask-unknown postingsIn [] w (grown rs .terms) (ltb-false _ _ e))
 
   -- LOOKING UP a term, and reading its chain
-  pub looks : (t : Term) (w : List ℕ) → Seeks t w → Looks m rs t w
-  looks t w k = looks-as (knows (grown rs .terms) w) t w k refl
+  pub looks : (w : List ℕ) → Looks m rs w
+  looks w = looks-as (knows (grown rs .terms) w) w refl
 
   -- ---- counters
 
@@ -86,7 +84,7 @@ first-given (row {r = r} {rs = rs} g n) = go (r .holds) (first-given n)
 
 -- of the numbers of the rows none is 8, 10 or 13
 pub never : (bytes entries : ℕ) (rs : List Report) (f : List ℕ) → Given (firstOf (ledgerRows bytes entries rs f))
-unfolding ledgerRows reportRows headRows
+unfolding ledgerRows reportRows headRows fieldRows
 never bytes entries rs f =
     first-given
     (row {r = 1 if _} (low 1 (omega arith))

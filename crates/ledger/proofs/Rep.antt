@@ -9,8 +9,6 @@ use lib.Dec.{leb}
 use lib.ListN.{length, replicate, length-map, List·getD-map}
 use borrow.Author.Tests.{ltb-true, ltb-false, le-ltb}
 use Rattle.basics.proofs.Cases.{by-eq}
-use Rattle.terms.specs.Terms.{fnv1a, termOf}
-use Rattle.terms.specs.declared.Term.{Term}
 use Rattle.frames.specs.Frames.{Line}
 use Rattle.blocks.specs.declared.Head.{Head}
 use Rattle.postings.specs.Coding.{code}
@@ -22,7 +20,7 @@ use Rattle.chains.proofs.Laws.{chain-whole}
 use Rattle.lookup.specs.Lookup.{slots, search}
 use Rattle.lookup.specs.declared.Found.the-variants as found
 use Rattle.lookup.proofs.Search.{search-none}
-use Rattle.lookup.proofs.Table.{Known, nth, Tab, Lacks, Seeks, seeks-termOf, Open, known, unknown, tab-start}
+use Rattle.lookup.proofs.Table.{Known, nth, Tab, Lacks, Open, known, unknown, tab-start}
 use Rattle.counters.specs.Counters.{Memory, memory}
 use Rattle.ingest.specs.declared.Place.the-variants.{New, Stays, Spills}
 use Rattle.ingest.specs.Report.{damagedHead, placeAt, placed, placeOf}
@@ -78,24 +76,24 @@ lacks ix w e i h q =
 
 -- ---- a search
 
-module _ {m : Memory} {ix : Index} {n : ℕ} (r : Rep m ix n) (t : Term) (w : List ℕ) (seeks : Seeks t w) where
+module _ {m : Memory} {ix : Index} {n : ℕ} (r : Rep m ix n) (w : List ℕ) where
   -- of a known name
-  pub search-known : knows (ix .terms) w ≡ true → search (m .arena) (m .counters .used) (m .table) t ≡ found.At (headNo (termAt ix (find w (ix .terms))))
+  pub search-known : knows (ix .terms) w ≡ true → search (m .arena) (m .counters .used) (m .table) w ≡ found.At (headNo (termAt ix (find w (ix .terms))))
   search-known e =
       let i : ℕ = find w (ix .terms) in
       let h : i < length (ix .terms) = ltb-true _ _ e in
       let q : nth (entriesOf ix) i ≡ entryOf (termAt ix i) = nth-entry ix i in
       let nm : nth (entriesOf ix) i .name ≡ w = ap (λ (k : Known). k .name) q ∙ find-name w (ix .terms) h in
-      ap (λ (u : ℕ). search (m .arena) u (m .table) t) (r .used-is)
-      ∙ known (r .tab) t i (rw (length-entries ix) h) (rw nm seeks) ∙ ap (λ (k : Known). found.At (k .head)) q
+      ap (λ (u : ℕ). search (m .arena) u (m .table) w) (r .used-is)
+      ∙ ap (search (m .arena) (usedOf ix) (m .table)) (sym nm) ∙ known (r .tab) i (rw (length-entries ix) h) ∙ ap (λ (k : Known). found.At (k .head)) q
 
   -- of an unknown one
-  pub search-unknown : knows (ix .terms) w ≡ false → (s : ℕ) × (search (m .arena) (m .counters .used) (m .table) t ≡ found.Unknown s)
+  pub search-unknown : knows (ix .terms) w ≡ false → (s : ℕ) × (search (m .arena) (m .counters .used) (m .table) w ≡ found.Unknown s)
   search-unknown e =
       by-eq (slots (m .table)) 0
-      (λ z. (0, search-none (m .arena) (m .counters .used) (m .table) t z))
-      (λ z. let o : Open (m .arena) (usedOf ix) (m .table) t = unknown (r .tab) t w seeks (lacks ix w e) (omega arith) in
-      (o .slot, ap (λ (u : ℕ). search (m .arena) u (m .table) t) (r .used-is) ∙ o .answer))
+      (λ z. (0, search-none (m .arena) (m .counters .used) (m .table) w z))
+      (λ z. let o : Open (m .arena) (usedOf ix) (m .table) w = unknown (r .tab) w (lacks ix w e) (omega arith) in
+      (o .slot, ap (λ (u : ℕ). search (m .arena) u (m .table) w) (r .used-is) ∙ o .answer))
 
 -- ---- numbers of rising postings
 
@@ -161,13 +159,10 @@ module _ {m : Memory} {ix : Index} {n : ℕ} (r : Rep m ix n) where
         → placeOf m l ≡ Stays (headNo (termAt ix (find (l .term) (ix .terms)))) → Goes l
     spills : knows (ix .terms) (l .term) ≡ true → fits (headFor (termAt ix (find (l .term) (ix .terms)))) (n + 1) (l .count) ≡ false
         → placeOf m l ≡ Spills (headNo (termAt ix (find (l .term) (ix .terms)))) → Goes l
-    opens : knows (ix .terms) (l .term) ≡ false → (s : ℕ) → search (m .arena) (m .counters .used) (m .table) (termOf (l .term)) ≡ found.Unknown s
+    opens : knows (ix .terms) (l .term) ≡ false → (s : ℕ) → search (m .arena) (m .counters .used) (m .table) (l .term) ≡ found.Unknown s
         → placeOf m l ≡ New s → Goes l
 
   module _ (l : Line) (g : GoodLine l) (low : lastFrom 0 (held (l .term) (ix .terms)) ≤ n) where
-    pub seeks-line : Seeks (termOf (l .term)) (l .term)
-    seeks-line = record { name-is = seeks-termOf (l .term) .name-is ∙ g .is-folded; hash-is = seeks-termOf (l .term) .hash-is ∙ ap fnv1a (g .is-folded) }
-
     -- of a known term
     known-goes : (b : Bool) → knows (ix .terms) (l .term) ≡ true → fits (headFor (termAt ix (find (l .term) (ix .terms)))) (n + 1) (l .count) ≡ b → Goes l
     unfolding placeOf placed
@@ -176,7 +171,7 @@ module _ {m : Memory} {ix : Index} {n : ℕ} (r : Rep m ix n) where
         let hi : i < length (ix .terms) = ltb-true _ _ e in
         let lo : lastFrom 0 (postingsIn (termAt ix i)) ≤ n = rw (← (ask-known postingsIn [] (l .term) (ix .terms) hi)) low in
         let p : placeOf m l ≡ cond (fits (headFor (termAt ix i)) (n + 1) (l .count)) (Stays (headNo (termAt ix i))) (Spills (headNo (termAt ix i))) =
-        ap (placed (m .arena) (m .counters) (l .count)) (search-known r (termOf (l .term)) (l .term) seeks-line e) ∙ place-at i hi lo (l .count) in
+        ap (placed (m .arena) (m .counters) (l .count)) (search-known r (l .term) e) ∙ place-at i hi lo (l .count) in
         go b q p
       where
         go : (b : Bool) → fits (headFor (termAt ix (find (l .term) (ix .terms)))) (n + 1) (l .count) ≡ b
@@ -189,7 +184,7 @@ module _ {m : Memory} {ix : Index} {n : ℕ} (r : Rep m ix n) where
     unfolding placeOf placed
     goes-as true e = known-goes (fits (headFor (termAt ix (find (l .term) (ix .terms)))) (n + 1) (l .count)) e refl
     goes-as false e =
-        let o = search-unknown r (termOf (l .term)) (l .term) seeks-line e in
+        let o = search-unknown r (l .term) e in
         opens e (o .0) (o .1) (ap (placed (m .arena) (m .counters) (l .count)) (o .1))
 
     -- A LINE goes in one of these ways

@@ -6,7 +6,7 @@ use mathlib.Core.Bool.{Bool, true, false, cond}
 use lib.Dec.{ltb}
 use lib.ListN.{length}
 use Rattle.basics.specs.Lists.{same}
-use Rattle.terms.specs.Terms.{maxTerm, folded}
+use Rattle.terms.specs.Terms.{maxTerm}
 use Rattle.frames.specs.Frames.{Line}
 use Rattle.blocks.specs.Fields.{maxWord}
 use Rattle.blocks.specs.Prescribed.{Posting}
@@ -50,10 +50,9 @@ takeReports ix n (r ∷ rs) = takeReports (takeLines ix n r) (suc n) rs
 unfoldable pub grown : List Report → Index
 grown rs = takeReports empty 1 rs
 
--- ---- reports that can be taken: lines have folded terms of at most 36 bytes and counts from 1, and no term comes twice
+-- ---- reports that can be taken: lines have terms of at most 36 bytes and counts from 1, and no term comes twice
 
 pub record GoodLine (l : Line) : Type 0 where
-  pub is-folded : folded (l .term) ≡ l .term
   pub short : length (l .term) ≤ maxTerm
   pub count-pos : 1 ≤ l .count
   pub count-small : l .count ≤ maxWord

@@ -12,8 +12,7 @@ use lib.ListN.{length, getD, length-set}
 use Rattle.basics.specs.Lists.{same}
 use Rattle.basics.proofs.Cases.{by-lt, by-eq}
 use Rattle.basics.proofs.Lists.{same-eq, eq-same}
-use Rattle.terms.specs.Terms.{nameIn}
-use Rattle.terms.specs.declared.Term.{Term}
+use Rattle.terms.specs.Terms.{fnv1a}
 use Rattle.blocks.specs.Fields.{nameOf}
 use Rattle.lookup.specs.Lookup.{slots, nextSlot, searchFrom, search, enter}
 use Rattle.lookup.specs.declared.Found.{Found}
@@ -150,28 +149,27 @@ module _ (a : List ℕ) (used : ℕ) (table w : List ℕ) where
 
 -- ---- the whole search
 
-module _ (a : List ℕ) (used : ℕ) (table : List ℕ) (t : Term) where
+module _ (a : List ℕ) (used : ℕ) (table w : List ℕ) where
   -- without slots every term is unknown
-  pub search-none : slots table ≡ 0 → search a used table t ≡ Unknown 0
+  pub search-none : slots table ≡ 0 → search a used table w ≡ Unknown 0
   unfolding search
   search-none e = rw (eq-eqb (slots table) 0 e)
 
   -- with slots the search begins at that of the hash
-  pub search-some : 0 < slots table → search a used table t ≡ searchFrom (slots table) a used table (nameIn t) (t .hash % slots table)
+  pub search-some : 0 < slots table → search a used table w ≡ searchFrom (slots table) a used table w (fnv1a w % slots table)
   unfolding search
   search-some h = rw (ne-eqb (slots table) 0 (λ e. omega arith))
 
   -- a term found has a used block that holds its name
-  pub search-at : (b : ℕ) → search a used table t ≡ At b → Stands a used (nameIn t) b
+  pub search-at : (b : ℕ) → search a used table w ≡ At b → Stands a used w b
   search-at b e =
       by-eq (slots table) 0
       (λ n. let z : _≡_ {A = ℕ} 0 1 = cc (search-none n) in absurd (omega arith))
-      (λ n. from-at a used table (nameIn t) (slots table) (t .hash % slots table) b (sym (search-some (omega arith)) ∙ e))
+      (λ n. from-at a used table w (slots table) (fnv1a w % slots table) b (sym (search-some (omega arith)) ∙ e))
 
   -- the slot of an unknown term is empty
-  pub search-unknown : (s : ℕ) → 0 < slots table → search a used table t ≡ Unknown s → (s < slots table) × (getD table s 0 ≡ 0)
+  pub search-unknown : (s : ℕ) → 0 < slots table → search a used table w ≡ Unknown s → (s < slots table) × (getD table s 0 ≡ 0)
   search-unknown s h e =
-      let first : ℕ = t .hash % slots table in
-      let v : Vacant (slots table) table (slots table) first s
-      = from-unknown a used table (nameIn t) (slots table) first s (mod-lt (t .hash) h) (sym (search-some h) ∙ e) in
+      let v : Vacant (slots table) table (slots table) (fnv1a w % slots table) s
+      = from-unknown a used table w (slots table) (fnv1a w % slots table) s (mod-lt (fnv1a w) h) (sym (search-some h) ∙ e) in
       (v .inside, v .empty)

@@ -1,6 +1,6 @@
 -- The table of an index that was grown from a start: which terms it holds, and that a search finds these and no others.
 -- Assumes nothing.
-use mathlib.Core.Path.{_≡_, refl, sym, ap, ap₂, _∙_}
+use mathlib.Core.Path.{_≡_, refl, sym, ap, _∙_}
 use mathlib.Core.Logic.{_⊎_, inl, inr}
 use mathlib.Core.List.{List, [], _∷_, _++_}
 use Prim.Native.Nat.{ℕ, zero, suc, _+_, _-_, _/_, _%_, _≤_, _<_}
@@ -10,11 +10,9 @@ use native.Mathlib.Omega.{arith}
 use lib.ListN.{length, getD, set, replicate, length-append, length-replicate, getD-replicate, List·getD-append}
 use lib.Seq.{getD-append-seam, getD-set-same, getD-set-other}
 use Rattle.basics.proofs.Cases.{by-lt, by-eq}
-use Rattle.terms.specs.Terms.{folded, fnv1a, termOf, nameIn}
-use Rattle.terms.specs.declared.Term.{Term}
-use Rattle.terms.proofs.Laws.{termOf-hash, nameIn-termOf}
+use Rattle.terms.specs.Terms.{fnv1a}
 use Rattle.blocks.specs.Fields.{nameOf}
-use Rattle.lookup.specs.Lookup.{slots, nextSlot, searchFrom, search as sought, enter}
+use Rattle.lookup.specs.Lookup.{slots, nextSlot, search as sought, enter}
 use Rattle.lookup.specs.declared.Found.the-variants.{At, Unknown}
 use Rattle.lookup.proofs.Search.{slots-le, slots-enter, next-plain, next-last, next-lt, Way, here, on, Vacant, Stands, from, Step, vacant, unused, found, passed, step, from-unknown, search-some}
 
@@ -99,19 +97,10 @@ Lacks ks w = (i : ℕ) → i < length ks → nth ks i .name ≡ w → ⊥
 
 -- ---- a search
 
--- a term that seeks the name w
-pub record Seeks (t : Term) (w : List ℕ) : Type 0 where
-  pub name-is : nameIn t ≡ w
-  pub hash-is : t .hash ≡ fnv1a w
-
--- a term folded seeks its folded bytes
-pub seeks-termOf : (s : List ℕ) → Seeks (termOf s) (folded s)
-seeks-termOf s = record { name-is = nameIn-termOf s; hash-is = termOf-hash s }
-
 -- an empty slot that answers the search for it
-pub record Open (a : List ℕ) (used : ℕ) (table : List ℕ) (t : Term) : Type 0 where
+pub record Open (a : List ℕ) (used : ℕ) (table w : List ℕ) : Type 0 where
   pub slot : ℕ
-  pub answer : sought a used table t ≡ Unknown slot
+  pub answer : sought a used table w ≡ Unknown slot
   pub inside : slot < slots table
   pub empty : getD table slot 0 ≡ 0
 
@@ -119,18 +108,16 @@ pub record Open (a : List ℕ) (used : ℕ) (table : List ℕ) (t : Term) : Type
 abbrev first : List ℕ → List ℕ → ℕ
 first table w = fnv1a w % slots table
 
-module _ (a : List ℕ) (used : ℕ) (table : List ℕ) (t : Term) (w : List ℕ) (seeks : Seeks t w) (some : 0 < slots table) where
-  begins : sought a used table t ≡ from a used table w (slots table) (first table w)
-  begins =
-      search-some a used table t some
-      ∙ ap₂ (λ (n : List ℕ) (x : ℕ). searchFrom (slots table) a used table n (x % slots table)) (seeks .name-is) (seeks .hash-is)
+module _ (a : List ℕ) (used : ℕ) (table w : List ℕ) (some : 0 < slots table) where
+  begins : sought a used table w ≡ from a used table w (slots table) (first table w)
+  begins = search-some a used table w some
 
-  vacant-met : (s : ℕ) → sought a used table t ≡ Unknown s → Vacant (slots table) table (slots table) (first table w) s
+  vacant-met : (s : ℕ) → sought a used table w ≡ Unknown s → Vacant (slots table) table (slots table) (first table w) s
   vacant-met s e = from-unknown a used table w (slots table) (first table w) s (mod-lt (fnv1a w) some) (sym begins ∙ e)
 
-  opened : (s : ℕ) × (from a used table w (slots table) (first table w) ≡ Unknown s) → Open a used table t
+  opened : (s : ℕ) × (from a used table w (slots table) (first table w) ≡ Unknown s) → Open a used table w
   opened m =
-      let e : sought a used table t ≡ Unknown (m .0) = begins ∙ m .1 in
+      let e : sought a used table w ≡ Unknown (m .0) = begins ∙ m .1 in
       let v : Vacant (slots table) table (slots table) (first table w) (m .0) = vacant-met (m .0) e in
       record { slot = m .0; answer = e; inside = v .inside; empty = v .empty }
 
@@ -173,11 +160,11 @@ module _ {a : List ℕ} {used : ℕ} {table : List ℕ} {ks : List Known} (tab :
   on-way i l h v (on {left} {s} {k} n w) = at-filled i l left s h n (λ m. on-way i l (next-lt (slots table) s h) v w)
 
   -- the search for a term of the table finds its head
-  pub known : (t : Term) (i : ℕ) → i < length ks → Seeks t (nth ks i .name) → sought a used table t ≡ At (nth ks i .head)
-  known t i l seeks =
+  pub known : (i : ℕ) → i < length ks → sought a used table (nth ks i .name) ≡ At (nth ks i .head)
+  known i l =
       let some : 0 < slots table = omega (arith, tab .most) in
       let r : Reached table (nth ks i) = tab .reached i l in
-      begins a used table t (nth ks i .name) seeks some ∙ on-way i l (mod-lt (fnv1a (nth ks i .name)) some) (r .value) (r .way)
+      begins a used table (nth ks i .name) some ∙ on-way i l (mod-lt (fnv1a (nth ks i .name)) some) (r .value) (r .way)
 
   -- the search for another name ends where slot e ahead is empty
   module _ (w : List ℕ) (new : Lacks ks w) (e : ℕ) (inside : e < slots table) (free : getD table e 0 ≡ 0) where
@@ -218,11 +205,11 @@ module _ {a : List ℕ} {used : ℕ} {table : List ℕ} {ks : List Known} (tab :
         go (passed n m q) ih = let r = ih n in (r .0, q ∙ r .1)
 
   -- the search for any other name ends at an empty slot
-  pub unknown : (t : Term) (w : List ℕ) → Seeks t w → Lacks ks w → 0 < slots table → Open a used table t
-  unknown t w seeks new some =
+  pub unknown : (w : List ℕ) → Lacks ks w → 0 < slots table → Open a used table w
+  unknown w new some =
       let free : Spare (slots table) table = spare (slots table) table (omega (arith, tab .most, tab .count)) in
       let low : first table w < slots table = mod-lt (fnv1a w) some in
-      opened a used table t w seeks some
+      opened a used table w some
       (ends w new (free .slot) (free .inside) (free .empty) (slots table) (first table w) low
       (ahead-all w new (free .slot) (free .inside) (free .empty) (first table w) low))
 
@@ -325,7 +312,7 @@ module _ {a : List ℕ} {used : ℕ} {table : List ℕ} {ks : List Known} (tab :
 -- a new name is entered, its head in the slot that its search gave, be it in this arena or in one before
 pub tab-enter : {a : List ℕ} {used : ℕ} {table : List ℕ} {ks : List Known} → Tab a used table ks → (k : Known)
     → Lacks ks (k .name) → Stands a used (k .name) (k .head) → length ks < slots table / 2
-    → (a₀ : List ℕ) (used₀ : ℕ) (t : Term) (s : ℕ) → Seeks t (k .name) → sought a₀ used₀ table t ≡ Unknown s
+    → (a₀ : List ℕ) (used₀ s : ℕ) → sought a₀ used₀ table (k .name) ≡ Unknown s
     → Tab a used (enter table s (k .head)) (ks ++ (k ∷ []))
-tab-enter {table = table} tab k new stands-new room a₀ used₀ t s seeks e =
-    entered tab k new stands-new room s (vacant-met a₀ used₀ table t (k .name) seeks (omega arith) s e)
+tab-enter {table = table} tab k new stands-new room a₀ used₀ s e =
+    entered tab k new stands-new room s (vacant-met a₀ used₀ table (k .name) (omega arith) s e)

@@ -5,8 +5,7 @@ use mathlib.Core.Bool.{cond}
 use lib.Dec.{ltb, eqb}
 use lib.ListN.{length, getD, set}
 use Rattle.basics.specs.Lists.{same}
-use Rattle.terms.specs.Terms.{nameIn}
-use Rattle.terms.specs.declared.Term.{Term}
+use Rattle.terms.specs.Terms.{fnv1a}
 use Rattle.blocks.specs.Fields.{maxWord, nameOf}
 use Rattle.lookup.specs.declared.Found.{Found}
 use Rattle.lookup.specs.declared.Found.the-variants.{At, Unknown, Damaged}
@@ -31,10 +30,10 @@ searchFrom (suc left) a used table name s =
     let e = getD table s 0 in
     cond (eqb e 0) (Unknown s) (cond (ltb (e - 1) used) (cond (same (nameOf a (e - 1)) name) (At (e - 1)) on) Damaged)
 
--- the search for a folded term. Where the table has no slot every term is unknown
-unfoldable pub search : List ℕ → ℕ → List ℕ → Term → Found
-search a used table t =
-    cond (eqb (slots table) 0) (Unknown 0) (searchFrom (slots table) a used table (nameIn t) (t .hash % slots table))
+-- the search for a folded term, from the slot of its hash on. Where the table has no slot every term is unknown
+unfoldable pub search : List ℕ → ℕ → List ℕ → List ℕ → Found
+search a used table name =
+    cond (eqb (slots table) 0) (Unknown 0) (searchFrom (slots table) a used table name (fnv1a name % slots table))
 
 -- a new term's head in the empty slot met: block number + 1
 unfoldable pub enter : List ℕ → ℕ → ℕ → List ℕ

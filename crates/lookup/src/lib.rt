@@ -3,10 +3,9 @@ ghost use mathlib.Core.Path.{_≡_};
 ghost use Prim.Native.Nat.{_+_, _≤_, _<_};
 ghost use lib.ListN.{length};
 ghost use Rattle.basics.specs.Lists.{same};
-ghost use Rattle.terms.specs.Terms.{maxTerm, nameIn};
+ghost use Rattle.terms.specs.Terms.{maxTerm, folded, fnv1a};
 ghost use Rattle.blocks.specs.Fields.{maxWord, blockSize, place, nameOf};
 ghost use Rattle.lookup.specs.Lookup.{slots, search, enter};
-use terms::Term;
 
 // What a search finds: the head's block, the empty slot where the term would go, or damage.
 pub enum Found {
@@ -26,37 +25,31 @@ pub fn slots_of(table: &[u32]) -> u32
     }
 }
 
-// Whether block b, read as a head, holds the term.
-fn holds_term(arena: &[u8], b: u32, term: Term) -> bool
-    requires { ⌜ (place b + blockSize ≤ length (now arena)) × (term .length ≤ maxTerm) ⌝ }
-    ensures { λ r. ⌜ r ≡ same (nameOf (now (arena .entry)) b) (nameIn term) ⌝ }
+// Whether block b, read as a head, holds the folded term.
+fn holds_name(arena: &[u8], b: u32, name: &[u8]) -> bool
+    requires { ⌜ (place b + blockSize ≤ length (now arena)) × (length (now name) ≤ maxTerm) ⌝ }
+    ensures { λ r. ⌜ r ≡ same (nameOf (now (arena .entry)) b) (now (name .entry)) ⌝ }
 {
     let at = blocks::place_of(b);
-    let n = term.length;
-    let bytes = term.bytes;
-    if arena[at + 17] as usize != n {
+    let n = name.len();
+    if basics::wide(arena[at + 17]) != n {
         return false;
     }
-    let mut i: usize = 0;
-    while i < n {
-        if arena[at + 18 + i] != bytes[i] {
-            return false;
-        }
-        i += 1;
-    }
-    true
+    let from = at + 18;
+    let to = from + n;
+    basics::same_bytes(&arena[from..to], name)
 }
 
-// The search: from the slot of the term's hash, one slot on and wrapping, to a match or an empty slot.
-pub fn find(arena: &[u8], used: u32, table: &[u32], term: Term) -> Found
-    requires { ⌜ (place used ≤ length (now arena)) × (term .length ≤ maxTerm) ⌝ }
-    ensures { λ r. ⌜ r ≡ search (now (arena .entry)) used (now (table .entry)) term ⌝ }
+// The search for a folded term: from the slot of its hash, one slot on and wrapping, to a match or an empty slot.
+pub fn find(arena: &[u8], used: u32, table: &[u32], name: &[u8], hash: u32) -> Found
+    requires { ⌜ (place used ≤ length (now arena)) × (length (now name) ≤ maxTerm) × (hash ≡ fnv1a (now name)) ⌝ }
+    ensures { λ r. ⌜ r ≡ search (now (arena .entry)) used (now (table .entry)) (now (name .entry)) ⌝ }
 {
     let t = slots_of(table);
     if t == 0 {
         return Found::Unknown(0);
     }
-    let mut slot = term.hash % t;
+    let mut slot = hash % t;
     let mut left = t;
     while 0 < left {
         let e = table[slot as usize];
@@ -66,7 +59,7 @@ pub fn find(arena: &[u8], used: u32, table: &[u32], term: Term) -> Found
         if used <= e - 1 {
             return Found::Damaged;
         }
-        if holds_term(arena, e - 1, term) {
+        if holds_name(arena, e - 1, name) {
             return Found::At(e - 1);
         }
         slot += 1;
@@ -76,6 +69,18 @@ pub fn find(arena: &[u8], used: u32, table: &[u32], term: Term) -> Found
         left -= 1;
     }
     Found::Damaged
+}
+
+// The same for a term that is not folded yet.
+pub fn find_term(arena: &[u8], used: u32, table: &[u32], term: &[u8]) -> Found
+    requires { ⌜ (place used ≤ length (now arena)) × (length (now term) ≤ maxTerm) ⌝ }
+    ensures { λ r. ⌜ r ≡ search (now (arena .entry)) used (now (table .entry)) (folded (now (term .entry))) ⌝ }
+{
+    let mut bytes = [0u8; 36];
+    let n = term.len();
+    terms::fold(term, &mut bytes);
+    let name = &bytes[..n];
+    find(arena, used, table, name, terms::fnv1a(name))
 }
 
 // Puts a new term's head into the empty slot met.

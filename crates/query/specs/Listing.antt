@@ -6,7 +6,6 @@ use lib.Dec.{ltb, leb, eqb}
 use lib.ListN.{length, take}
 use lib.Seq.{sets}
 use Rattle.basics.specs.Lists.{all, any, keep}
-use Rattle.terms.specs.Terms.{termOf}
 use Rattle.frames.specs.Refusals.{Row, _if_, firstOf}
 use Rattle.frames.specs.Frames.{queryRows, queryStart, queryTerms}
 use Rattle.blocks.specs.Prescribed.{Posting}
@@ -26,7 +25,7 @@ readFound m (found.Unknown s) = whole []
 readFound m found.Damaged = damaged
 
 unfoldable pub readTerm : Memory → List ℕ → Reading
-readTerm m w = readFound m (search (m .arena) (m .counters .used) (m .table) (termOf w))
+readTerm m w = readFound m (search (m .arena) (m .counters .used) (m .table) w)
 
 unfoldable pub postingsIn : Reading → List Posting
 postingsIn damaged = []

@@ -3,18 +3,17 @@
 use mathlib.Core.Path.{_≡_, refl, sym, ap, _∙_}
 use mathlib.Core.Bool.{Bool, true, false, _&&_}
 use mathlib.Core.List.{List, [], _∷_, _++_, map-append}
-use Prim.Native.Nat.{ℕ, _+_, _-_, _^_, _≤_, _<_}
+use Prim.Native.Nat.{ℕ, _+_, _^_, _≤_, _<_}
+use native.Mathlib.Nat.{zero-add}
 use native.Mathlib.Numerals.{add-one}
 use native.Mathlib.Omega.{arith}
-use borrow.Author.Tests.{leb-true, le-leb, lt-leb}
-use lib.Dec.{leb}
-use lib.ListN.{length, getD, take, drop, drop-of-length-le, replicate, length-map, List·getD-map, length-append, length-replicate}
-use lib.Seq.{drop-cons, take-at, drop-at, sets, length-take-le}
+use borrow.Author.Tests.{leb-true, le-leb, lt-leb, lt-ltb}
+use lib.Dec.{leb, ltb}
+use lib.ListN.{length, getD, take, drop, drop-of-length-le, length-map, List·getD-map}
+use lib.Seq.{drop-cons, sets, sets-eq, take-at}
 use Rattle.basics.specs.Lists.{all}
 use Rattle.basics.proofs.Lists.{and-left, and-right, and-false, all-at, map-take, map-drop}
-use Rattle.basics.proofs.Stores.{sets-front}
-use Rattle.terms.specs.Terms.{maxTerm, allowed, capital, foldByte, folded, isTerm, mixed, mixedAll, fnv1a, termOf, nameIn}
-use Rattle.terms.specs.declared.Term.{Term}
+use Rattle.terms.specs.Terms.{maxTerm, allowed, capital, foldByte, folded, isTerm, mixed, mixedAll, fnv1a, isName, judgedAs}
 
 -- ---- a byte
 
@@ -85,23 +84,31 @@ fold-fold b =
     (λ l h. rw (range-allowed (b + 32) (omega arith) (omega arith), le-leb 0x41 (b + 32) (omega arith), lt-leb (b + 32) 0x5a (omega arith)))
     (λ p q. rw (p, q))
 
--- ---- a list of bytes
+-- a byte, by the rule
+module _ (b : ℕ) where
+  pub fold-low : b < 0x21 → foldByte b ≡ 0
+  unfolding foldByte allowed
+  fold-low h = rw (lt-leb 0x21 b h)
 
--- folding keeps the length
--- an allowed byte, by the rule
-module _ (b : ℕ) (a : allowed b ≡ true) where
-  pub fold-below : b < 0x41 → foldByte b ≡ b
-  unfolding foldByte capital
-  fold-below h = rw (a, lt-leb 0x41 b h)
+  pub fold-high : 0x7e < b → foldByte b ≡ 0
+  unfolding allowed
+  fold-high h = barred-fold b (rw (lt-leb b 0x7e h) (and-false (leb 0x21 b)))
 
-  pub fold-above : 0x5a < b → foldByte b ≡ b
+  pub fold-below : 0x21 ≤ b → b < 0x41 → foldByte b ≡ b
   unfolding foldByte capital
-  fold-above h = rw (a, le-leb 0x41 b (omega arith), lt-leb b 0x5a h)
+  fold-below l h = rw (range-allowed b l (omega arith), lt-leb 0x41 b h)
+
+  pub fold-above : 0x5a < b → b ≤ 0x7e → foldByte b ≡ b
+  unfolding foldByte capital
+  fold-above l h = rw (range-allowed b (omega arith) h, le-leb 0x41 b (omega arith), lt-leb b 0x5a l)
 
   pub fold-capital : 0x41 ≤ b → b ≤ 0x5a → foldByte b ≡ b + 32
   unfolding foldByte capital
-  fold-capital h k = rw (a, le-leb 0x41 b h, le-leb b 0x5a k)
+  fold-capital l h = rw (range-allowed b (omega arith) (omega arith), le-leb 0x41 b l, le-leb b 0x5a h)
 
+-- ---- a list of bytes
+
+-- folding keeps the length
 pub length-folded : (s : List ℕ) → length (folded s) ≡ length s
 unfolding folded
 length-folded s = length-map s foldByte
@@ -131,6 +138,12 @@ folded-more s i h = rw (add-one, drop-cons s i 0)
 pub folded-none : (s : List ℕ) (i : ℕ) → length s ≤ i → folded (drop i s) ≡ []
 unfolding folded
 folded-none s i h = rw (drop-of-length-le s h)
+
+-- stored at the front of a list they are its front
+pub folded-front : (s into : List ℕ) {after : List ℕ} → after ≡ sets into 0 (folded s) → length s ≤ length into → take (length s) after ≡ folded s
+folded-front s into e h =
+    let l : 0 + length (folded s) ≤ length into = rw (zero-add, length-folded s) h in
+    ap (take (length s)) (e ∙ sets-eq (folded s) into 0 l) ∙ take-at (folded s) _ (length s) (length-folded s)
 
 -- folding twice is folding once
 pub folded-folded : (s : List ℕ) → folded (folded s) ≡ folded s
@@ -186,6 +199,39 @@ isTerm-folded s = rw (length-folded s, all-folded s)
 pub term-byte : (s : List ℕ) → isTerm s ≡ true → (i : ℕ) → i < length s → (0 < getD (folded s) i 0) × (getD (folded s) i 0 < 256)
 term-byte s e i h = rw (folded-at s i) (allowed-fold-pos (getD s i 0) (term-allowed-at s e i h), fold-byte (getD s i 0))
 
+-- ---- folded bytes judged
+
+-- a byte is allowed exactly when it does not fold to 0
+allowed-pos : (b : ℕ) → ltb 0 (foldByte b) ≡ allowed b
+allowed-pos b = go (allowed b) refl
+  where
+    go : (a : Bool) → allowed b ≡ a → ltb 0 (foldByte b) ≡ a
+    go true p = lt-ltb 0 (foldByte b) (allowed-fold-pos b p)
+    go false p = rw (barred-fold b p)
+
+all-pos : (s : List ℕ) → all (ltb 0) (folded s) ≡ all allowed s
+unfolding folded all
+all-pos [] = refl
+all-pos (b ∷ s) = rw (allowed-pos b, all-pos s)
+
+-- 1 to 36 bytes by whether one is 0; fewer and more are none of a term's
+pub isName-pos : (w : List ℕ) → 1 ≤ length w → length w ≤ maxTerm → isName w ≡ all (ltb 0) w
+unfolding isName
+isName-pos w l h = rw (le-leb 1 (length w) l, le-leb (length w) maxTerm h)
+
+pub isName-short : (w : List ℕ) → length w < 1 → isName w ≡ false
+unfolding isName
+isName-short w h = rw (lt-leb 1 (length w) h)
+
+pub isName-long : (w : List ℕ) → maxTerm < length w → isName w ≡ false
+unfolding isName
+isName-long w h = rw (lt-leb (length w) maxTerm h, and-false)
+
+-- folded bytes are those of a term exactly when the bytes are a term
+pub isName-folded : (s : List ℕ) → isName (folded s) ≡ isTerm s
+unfolding isName isTerm
+isName-folded s = rw (length-folded s, all-pos s)
+
 -- ---- the hash
 
 -- a hash has 32 bits
@@ -207,50 +253,12 @@ pub mixedAll-more : (hash : ℕ) (s : List ℕ) (i : ℕ) → i < length s → m
 unfolding mixedAll
 mixedAll-more hash s i h = rw (add-one, drop-cons s i 0)
 
--- ---- a term folded once
+-- ---- what judging folded bytes tells
 
--- its length and its hash
-pub termOf-length : (s : List ℕ) → termOf s .length ≡ length s
-unfolding termOf
-termOf-length s = refl
+pub judged-term : (s : List ℕ) → judgedAs (folded s) .term ≡ isTerm s
+unfolding judgedAs
+judged-term s = isName-folded s
 
-pub termOf-hash : (s : List ℕ) → termOf s .hash ≡ fnv1a (folded s)
-unfolding termOf
-termOf-hash s = refl
-
--- that of bytes folded before is the same
-pub termOf-folded : (s : List ℕ) → termOf (folded s) ≡ termOf s
-unfolding termOf
-termOf-folded s = rw (folded-folded s, length-folded s)
-
--- its bytes are 36
-pub termOf-room : (s : List ℕ) → length s ≤ maxTerm → length (termOf s .bytes) ≡ maxTerm
-unfolding termOf
-termOf-room s h = simp (length-append, length-folded, length-replicate) (omega arith)
-
--- the folded bytes come first
-pub termOf-bytes : (s : List ℕ) → take (length s) (termOf s .bytes) ≡ folded s
-unfolding termOf
-termOf-bytes s = take-at (folded s) (replicate (maxTerm - length s) 0) (length s) (length-folded s)
-
--- and nulls behind them
-pub termOf-rest : (s : List ℕ) → drop (length s) (termOf s .bytes) ≡ replicate (maxTerm - length s) 0
-unfolding termOf
-termOf-rest s = drop-at (folded s) (replicate (maxTerm - length s) 0) (length s) (length-folded s)
-
--- so they are the folded bytes stored at the front of 36 nulls
-pub termOf-stored : (s : List ℕ) → length s ≤ maxTerm → sets (replicate maxTerm 0) 0 (folded s) ≡ termOf s .bytes
-unfolding termOf
-termOf-stored s h =
-    let e : length (folded s) ≤ maxTerm = rw length-folded h in
-    sets-front (folded s) maxTerm 0 e ∙ rw length-folded
-
--- they are what it holds
-pub nameIn-termOf : (s : List ℕ) → nameIn (termOf s) ≡ folded s
-unfolding nameIn
-nameIn-termOf s = ap (λ (n : ℕ). take n (termOf s .bytes)) (termOf-length s) ∙ termOf-bytes s
-
--- as many as its length says
-pub length-nameIn : (t : Term) → t .length ≤ length (t .bytes) → length (nameIn t) ≡ t .length
-unfolding nameIn
-length-nameIn t h = length-take-le (t .length) (t .bytes) h
+pub judged-hash : (w : List ℕ) → judgedAs w .hash ≡ fnv1a w
+unfolding judgedAs
+judged-hash w = refl

@@ -1,12 +1,12 @@
 -- Terms: which bytes they may have and how they are folded (document 01, "Frames"), and their hash ("Finding a term").
-use Prim.Native.Nat.{ℕ, _+_, _-_, _*_, _%_, _^_}
-use mathlib.Core.List.{List, [], _∷_, _++_, map}
+use Prim.Native.Nat.{ℕ, _+_, _*_, _%_, _^_}
+use mathlib.Core.List.{List, [], _∷_, map}
 use mathlib.Core.Bool.{Bool, cond, _&&_}
 use lib.Bits.{bitXor}
-use lib.Dec.{leb}
-use lib.ListN.{length, take, replicate}
+use lib.Dec.{leb, ltb}
+use lib.ListN.{length}
 use Rattle.basics.specs.Lists.{all}
-use Rattle.terms.specs.declared.Term.{Term}
+use Rattle.terms.specs.declared.Judged.{Judged}
 
 -- ---- folding
 
@@ -45,28 +45,11 @@ mixedAll hash (b ∷ s) = mixedAll (mixed hash b) s
 unfoldable pub fnv1a : List ℕ → ℕ
 fnv1a s = mixedAll 2166136261 s
 
--- ---- a mark, cheaper than the hash, by which equal terms are found in one frame
+-- ---- folded bytes, judged once
 
-unfoldable pub markedWith : ℕ → ℕ → ℕ
-markedWith m b = (m * 3 + b) % 65536
+-- the folded bytes of a term: 1 to 36, and none is 0, which is what a barred byte gives
+unfoldable pub isName : List ℕ → Bool
+isName w = leb 1 (length w) && leb (length w) maxTerm && all (ltb 0) w
 
-unfoldable pub markAll : ℕ → List ℕ → ℕ
-markAll m [] = m
-markAll m (b ∷ s) = markAll (markedWith m b) s
-
-unfoldable pub markOf : List ℕ → ℕ
-markOf s = markAll 0 s
-
--- ---- a term folded once
-
--- its folded bytes with nulls behind them, its length, and the hash of its folded bytes
-unfoldable pub termOf : List ℕ → Term
-termOf s = record {
-  bytes = folded s ++ replicate (maxTerm - length s) 0;
-  length = length s;
-  hash = fnv1a (folded s);
-}
-
--- the folded bytes that it holds
-unfoldable pub nameIn : Term → List ℕ
-nameIn t = take (t .length) (t .bytes)
+unfoldable pub judgedAs : List ℕ → Judged
+judgedAs w = record { term = isName w; hash = fnv1a w }

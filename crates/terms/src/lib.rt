@@ -3,13 +3,12 @@ ghost use mathlib.Core.Path.{_≡_};
 ghost use mathlib.Core.Bool.{true};
 ghost use Prim.Native.Nat.{_≤_};
 ghost use lib.ListN.{length};
-ghost use Rattle.basics.specs.Lists.{same};
-ghost use Rattle.terms.specs.Terms.{maxTerm, allowed, foldByte, folded, isTerm, mixed, fnv1a, markOf, termOf};
+ghost use lib.Seq.{sets};
+ghost use Rattle.terms.specs.Terms.{foldByte, folded, isTerm, mixed, fnv1a, judgedAs};
 
-// A term folded once: its folded bytes with nulls behind them, its length, and the FNV-1a of its folded bytes.
-pub struct Term {
-    pub bytes: [u8; 36],
-    pub length: usize,
+// Whether folded bytes are those of a term, and their FNV-1a.
+pub struct Judged {
+    pub term: bool,
     pub hash: u32,
 }
 
@@ -292,24 +291,6 @@ pub fn is_term(s: &[u8]) -> bool
     true
 }
 
-// Whether two terms are the same once folded.
-pub fn same_folded(a: &[u8], b: &[u8]) -> bool
-    ensures { λ r. ⌜ r ≡ same (folded (now (a .entry))) (folded (now (b .entry))) ⌝ }
-{
-    if a.len() != b.len() {
-        return false;
-    }
-    let table = FOLDED;
-    let mut i: usize = 0;
-    while i < a.len() {
-        if table[a[i] as usize] != table[b[i] as usize] {
-            return false;
-        }
-        i += 1;
-    }
-    true
-}
-
 // One byte more into a hash. The product is taken with 64 bits and cut to 32.
 fn mix(hash: u32, b: u8) -> u32
     ensures { λ r. ⌜ r ≡ mixed hash b ⌝ }
@@ -331,11 +312,16 @@ pub fn fnv1a(s: &[u8]) -> u32
     hash
 }
 
-// A byte of a term folded by the rule: the table would be laid out anew for every term.
-fn folded_byte(b: u8) -> u8
-    requires { ⌜ allowed b ≡ true ⌝ }
+// A byte folded by the rule. A loop over it takes sixteen bytes at a time, one over the table only one.
+fn fold_byte(b: u8) -> u8
     ensures { λ r. ⌜ r ≡ foldByte b ⌝ }
 {
+    if b < 33 {
+        return 0;
+    }
+    if 126 < b {
+        return 0;
+    }
     if b < 65 {
         return b;
     }
@@ -345,39 +331,38 @@ fn folded_byte(b: u8) -> u8
     b + 32
 }
 
-// A number that terms share which fold to the same bytes.
-pub fn mark(s: &[u8]) -> u32
-    requires { ⌜ isTerm (now s) ≡ true ⌝ }
-    ensures { λ r. ⌜ r ≡ markOf (folded (now (s .entry))) ⌝ }
+// Writes the folded bytes at the front of `into`.
+pub fn fold(s: &[u8], into: &mut [u8])
+    requires { ⌜ length (now s) ≤ length (now into) ⌝ }
+    ensures { λ r. ⌜ now (into .exit) ≡ sets (now (into .entry)) 0 (folded (now (s .entry))) ⌝ }
 {
-    let mut m: u32 = 0;
     let mut i: usize = 0;
     while i < s.len() {
-        let b = folded_byte(s[i]);
-        m = (m * 3 + b as u32) % 65536;
+        into[i] = fold_byte(s[i]);
         i += 1;
     }
-    m
 }
 
-// The bytes folded, with their hash.
-pub fn fold(s: &[u8]) -> Term
-    requires { ⌜ length (now s) ≤ maxTerm ⌝ }
-    ensures { λ r. ⌜ r ≡ termOf (now (s .entry)) ⌝ }
+// Judges folded bytes and takes their hash in one pass. A barred byte is folded to 0.
+pub fn judge(name: &[u8]) -> Judged
+    ensures { λ r. ⌜ r ≡ judgedAs (now (name .entry)) ⌝ }
 {
-    let table = FOLDED;
-    let mut bytes = [0u8; 36];
     let mut hash: u32 = 2166136261;
+    let mut allowed = true;
     let mut i: usize = 0;
-    while i < s.len() {
-        let b = table[s[i] as usize];
-        bytes[i] = b;
+    while i < name.len() {
+        let b = name[i];
+        if b == 0 {
+            allowed = false;
+        }
         hash = mix(hash, b);
         i += 1;
     }
-    Term {
-        bytes,
-        length: i,
+    if i == 0 || 36 < i {
+        return Judged { term: false, hash };
+    }
+    Judged {
+        term: allowed,
         hash,
     }
 }

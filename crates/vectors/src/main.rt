@@ -109,18 +109,20 @@ fn fold(payload: &[u8]) {
         print(b" refused");
         return;
     }
-    print_folded(payload);
-    print_hash(terms::fold(payload).hash);
+    let hash = print_folded(payload);
+    print_hash(hash);
 }
 
-// The folded term in hexadecimal.
-fn print_folded(term: &[u8])
+// The folded term in hexadecimal; its hash for those who print that too.
+fn print_folded(term: &[u8]) -> u32
     requires { ⌜ length (now term) ≤ maxTerm ⌝ }
 {
-    let t = terms::fold(term);
-    let bytes = t.bytes;
-    let n = t.length;
-    print_bytes(&bytes[..n]);
+    let mut bytes = [0u8; 36];
+    let n = term.len();
+    terms::fold(term, &mut bytes);
+    let name = &bytes[..n];
+    print_bytes(name);
+    terms::fnv1a(name)
 }
 
 // The folded terms of a sound frame's fields, with their counts where they have one.
@@ -272,6 +274,17 @@ fn print_chain(arena: &[u8], used: u32)
     }
 }
 
+// A head for the term at block 0, with its first posting.
+fn open_first(arena: &mut [u8], term: &[u8], number: u32, count: u32)
+    requires { ⌜ (length (now term) ≤ maxTerm) × (0 < number) × (64 ≤ length (now arena)) ⌝ }
+{
+    let mut bytes = [0u8; 36];
+    let n = term.len();
+    terms::fold(term, &mut bytes);
+    let name = &bytes[..n];
+    blocks::open_head(arena, 0, name, number, count);
+}
+
 // Sort 6: the chain of one term, laid out in an arena of null bytes with its head at block 0.
 fn chain(payload: &[u8]) {
     if payload.len() == 0 {
@@ -290,10 +303,9 @@ fn chain(payload: &[u8]) {
         return;
     }
     let mut arena = [0u8; 1536];
-    blocks::open_head(
+    open_first(
         &mut arena,
-        0,
-        terms::fold(term),
+        term,
         number,
         basics::read_word(payload, from + 4),
     );

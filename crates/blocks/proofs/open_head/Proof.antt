@@ -7,26 +7,18 @@ use mathlib.Core.Path.{_≡_}
 use native.Mathlib.Omega.{arith}
 use Prim.Native.Nat.{_≤_}
 use denote.Ref.{now}
-use lib.ListN.{length, length-set, length-map}
+use lib.ListN.{length, length-set}
 use Rattle.postings.specs.Coding.{code}
 use Rattle.postings.proofs.Laws.{length-code-le}
-use Rattle.terms.specs.Terms.{nameIn}
-use Rattle.terms.proofs.Laws.{length-nameIn}
 use Rattle.blocks.proofs.Writes.{open-stored}
 
--- the name is as long as the term says, since the term holds 36 bytes
-named : (c : tie.Start) → length (nameIn (c .args .term)) ≡ c .args .term .length
-named c =
-    let e : length (c .args .term .bytes) ≡ 36 = simp length-map at (c .good .1 .1 .0 .1 .1 .0 .1 .0 .1) in
-    length-nameIn (c .args .term) (omega arith)
-
 -- the posting has at most 10 bytes
-short : (c : tie.After-from-first) → let count = c .before .before .before .before .before .before .before .before .before .before .before .before .before .before .before .before .args .count in length (code (c .from-first .result .0) count) ≤ 10
-short c = length-code-le (c .from-first .result .0) (c .before .before .before .before .before .before .before .before .before .before .before .before .before .before .before .before .args .count) (omega arith) (omega arith)
+short : (c : tie.After-from-first) → let count = c .before .before .before .before .before .before .before .before .before .before .before .before .before .before .before .before .before .args .count in length (code (c .from-first .result .0) count) ≤ 10
+short c = length-code-le (c .from-first .result .0) (c .before .before .before .before .before .before .before .before .before .before .before .before .before .before .before .before .before .args .count) (omega arith) (omega arith)
 
 -- the arena keeps its length
-lasting : (c : tie.After-put-term) → length (c .put-term .last .0) ≡ length (now (c .before .before .before .before .before .before .before .before .before .before .before .before .args .arena))
-lasting c = omega (arith, simp length-set at (c .put-term .kept .0))
+lasting : (c : tie.After-put-name) → length (c .put-name .last .0) ≡ length (now (c .before .before .before .before .before .before .before .before .before .before .before .before .before .args .arena))
+lasting c = omega (arith, simp length-set at (c .put-name .kept .0))
 
 place-of-requires : tie.Need-place-of-requires
 place-of-requires c κs = search needs
@@ -46,11 +38,11 @@ add-arena c = search needs
 slice-write-arena : tie.Need-slice-write-arena
 slice-write-arena c = search needs
 
-add-put-term : tie.Need-add-put-term
-add-put-term c = search needs
+add-put-name : tie.Need-add-put-name
+add-put-name c = search needs
 
-put-term-requires : tie.Need-put-term-requires
-put-term-requires c κs = simp length-set (omega arith)
+put-name-requires : tie.Need-put-name-requires
+put-name-requires c κs = simp length-set (omega arith)
 
 add-put-first : tie.Need-add-put-first
 add-put-first c = search needs
@@ -64,7 +56,7 @@ put-first-requires c κs = omega (arith, short c, lasting (c .before .before .be
 put-changing-requires : tie.Need-put-changing-requires
 put-changing-requires c κs =
     let f = c .before .before .before in
-    omega (arith, short (f .before), lasting (f .before .before .before .before .before), f .put-first .ensures .0, f .put-first .kept .0, f .before .before .before .before .before .before .before .before .before .before .before .before .before .before .before .before .before .pre)
+    omega (arith, short (f .before), lasting (f .before .before .before .before .before), f .put-first .ensures .0, f .put-first .kept .0, f .before .before .before .before .before .before .before .before .before .before .before .before .before .before .before .before .before .before .pre)
 
 same-length : tie.Need-same-length
 same-length c =
@@ -80,11 +72,11 @@ returns c =
     let n = t .before .before .before .before in
     let k = n .before .before .before .before in
     let p = k .before .before in
-    let s = p .before .before in
+    let s = p .before .before .before in
     let a = s .args in
     let e : g .from-first .result .0 ≡ a .number = omega (arith, g .from-first .ensures) in
-    rw (w .put-changing .ensures, f .put-first .ensures .1, f .put-first .ensures .0, t .put-term .ensures, n .write-word .ensures, k .clear .ensures, p .place-of .ensures, e)
-    (rw (named s) at (open-stored (now (a .arena)) (a .b) (nameIn (a .term)) (a .number) (a .count) (rw (named s, ← e) (omega (arith, short g)))))
+    rw (w .put-changing .ensures, f .put-first .ensures .1, f .put-first .ensures .0, t .put-name .ensures, n .write-word .ensures, k .clear .ensures, p .place-of .ensures, e)
+    (open-stored (now (a .arena)) (a .b) (now (a .name)) (a .number) (a .count) (rw (← e) (omega (arith, short g))))
 
 pub open-head-spec : {M : Type 1} → statement M
 open-head-spec =
@@ -96,8 +88,8 @@ open-head-spec =
     cast-arena
     add-arena
     slice-write-arena
-    add-put-term
-    put-term-requires
+    add-put-name
+    put-name-requires
     add-put-first
     from-first-requires
     put-first-requires

@@ -15,19 +15,19 @@ use Rattle.frames.proofs.in_chain.Statement.{statement}
 use Rattle.frames.proofs.in_chain.Tie as tie
 
 abbrev Inv-loop : tie.InvT-loop
-Inv-loop frame earlier last c at₀ at =
+Inv-loop frame names earlier last c at₀ at =
     (hasTerm frame (foldedAt frame (c .at)) (chain earlier last) ≡ hasTerm frame (foldedAt frame (c .at)) (chain earlier at)) × (0 < at → Field countBytes frame at)
 
 abbrev μ-loop : tie.MeasureT-loop
-μ-loop frame earlier last c at₀ at = at
+μ-loop frame names earlier last c at₀ at = at
 
 loop-holds : tie.Need-loop-holds Inv-loop μ-loop
-loop-holds c = (refl, c .before .pre .0 .start)
+loop-holds c = (refl, c .before .before .pre .1 .start)
 
 -- the line in hand, and the chain behind it
 module _ (c : tie.In-loop Inv-loop μ-loop) where
   abbrev entry : tie.Start Inv-loop μ-loop
-  entry = c .before .before .before
+  entry = c .before .before .before .before
 
   abbrev frame : List ℕ
   frame = entry .args .frame .now
@@ -48,27 +48,27 @@ module _ (c : tie.In-loop Inv-loop μ-loop) where
   line = c .before .loop .inv .1 some
 
   down : getD earlier at 0 < at
-  down = entry .pre .0 .falls at some
+  down = entry .pre .1 .falls at some
 
   turn : hasTerm frame term (chain earlier (entry .args .last)) ≡ same term (foldedAt frame at) || hasTerm frame term (chain earlier (getD earlier at 0))
-  turn = c .before .loop .inv .0 ∙ has-more frame term earlier (entry .pre .0 .falls) at some
+  turn = c .before .loop .inv .0 ∙ has-more frame term earlier (entry .pre .1 .falls) at some
 
-term-requires : tie.Need-term-requires Inv-loop μ-loop
-term-requires c κs = field-term countBytes (frame c) (entry c .args .c .at) (entry c .pre .1)
+name-requires : tie.Need-name-requires Inv-loop μ-loop
+name-requires c κs = (field-term countBytes (frame c) (entry c .args .c .at) (entry c .pre .2), entry c .pre .0)
 
-term-requires-2 : tie.Need-term-requires-2 Inv-loop μ-loop
-term-requires-2 c κs = field-term countBytes (frame (c .before)) (at (c .before)) (line (c .before))
+name-requires-2 : tie.Need-name-requires-2 Inv-loop μ-loop
+name-requires-2 c κs = (field-term countBytes (frame (c .before)) (at (c .before)) (line (c .before)), entry (c .before) .pre .0)
 
-same-folded-requires : tie.Need-same-folded-requires Inv-loop μ-loop
-same-folded-requires c κs = tt
+same-bytes-requires : tie.Need-same-bytes-requires Inv-loop μ-loop
+same-bytes-requires c κs = tt
 
 -- the two terms compared
-module _ (c : tie.After-same-folded Inv-loop μ-loop) where
+module _ (c : tie.After-same-bytes Inv-loop μ-loop) where
   abbrev here : tie.In-loop Inv-loop μ-loop
   here = c .before .before .before
 
-  test : same (term here) (foldedAt (frame here) (at here)) ≡ c .same-folded .result
-  test = cc (c .same-folded .ensures, c .before .term2 .ensures, c .before .before .term .ensures)
+  test : same (term here) (foldedAt (frame here) (at here)) ≡ c .same-bytes .result
+  test = cc (c .same-bytes .ensures, c .before .name2 .ensures, c .before .before .name .ensures)
 
 returns : tie.Need-returns Inv-loop μ-loop
 returns c = sym (turn (here (c .before)) ∙ rw (test (c .before) ∙ c .if1 .taken))
@@ -88,11 +88,11 @@ loop-less c = down (here (c .before .before))
 loop-again : tie.Need-loop-again Inv-loop μ-loop
 loop-again c =
     let h = here (c .before .before) in
-    (turn h ∙ rw (test (c .before .before) ∙ c .before .if1 .left), entry h .pre .0 .whole (at h))
+    (turn h ∙ rw (test (c .before .before) ∙ c .before .if1 .left), entry h .pre .1 .whole (at h))
 
 returns-2 : tie.Need-returns-2 Inv-loop μ-loop
 returns-2 c =
-    let s = c .before .before .before .args in
+    let s = c .before .before .before .before .args in
     let f = s .frame .now in
     sym (c .before .loop .inv .0 ∙ rw (c .loop-test .left) (has-none f (foldedAt f (s .c .at)) (s .earlier .now)))
 
@@ -103,9 +103,9 @@ in-chain-spec =
     Inv-loop
     μ-loop
     loop-holds
-    term-requires
-    term-requires-2
-    same-folded-requires
+    name-requires
+    name-requires-2
+    same-bytes-requires
     returns
     mul-at
     element-copy-out-at

@@ -25,19 +25,19 @@ are-wrong-requires c κs = search needs
 
 returns : tie.Need-returns
 returns c =
-    let s = c .before .before .before .before .before in
-    sym (call-wrong (m s) (frame s) (s .pre) (sym (c .before .are-wrong .ensures) ∙ c .if1 .taken))
+    let s = c .before .before .before .before .before .before .before in
+    sym (call-wrong (m s) (frame s) (s .pre .0) (sym (c .before .are-wrong .ensures) ∙ c .if1 .taken))
 
 -- past refusal 8
 module _ (c : tie.Else1) where
   abbrev s : tie.Start
-  s = c .before .before .before .before .before
+  s = c .before .before .before .before .before .before .before
 
   fine : wrongCounters (m s .arena) (m s .table) (m s .counters) ≡ false
   fine = sym (c .before .are-wrong .ensures) ∙ c .if1 .left
 
 returns-2 : tie.Need-returns-2
-returns-2 c = let e = c .before .before in sym (call-last (m (s e)) (frame (s e)) (s e .pre) (fine e) (c .if2 .taken))
+returns-2 c = let e = c .before .before in sym (call-last (m (s e)) (frame (s e)) (s e .pre .0) (fine e) (c .if2 .taken))
 
 -- past refusal 9
 held : (c : tie.Else2) → HeldIn (m (s (c .before .before)))
@@ -47,7 +47,7 @@ held c =
     held-right k (right (k .arena) (k .table) (k .counters) (fine e)) (c .if2 .left) (omega arith)
 
 plan-lines-requires : tie.Need-plan-lines-requires
-plan-lines-requires c κs = (held c .room, s (c .before .before) .pre)
+plan-lines-requires c κs = let p = s (c .before .before) .pre in (held c .room, p .0, p .1)
 
 judge-requires : tie.Need-judge-requires
 judge-requires c κs = (held (c .before), c .plan-lines .ensures .1)
@@ -57,7 +57,7 @@ returns-3 c =
     let l = c .before in
     let i = l .before in
     let e = i .before .before in
-    rw (c .judge .ensures, l .plan-lines .ensures .0) (sym (call-plan (m (s e)) (frame (s e)) (s e .pre) (fine e) (i .if2 .left)))
+    rw (c .judge .ensures, l .plan-lines .ensures .0) (sym (call-plan (m (s e)) (frame (s e)) (s e .pre .0) (fine e) (i .if2 .left)))
 
 pub judge-report-spec : {M : Type 1} → statement M
 judge-report-spec =

@@ -13,15 +13,15 @@ use Rattle.ingest.proofs.place_of.Tie as tie
 
 find-requires : tie.Need-find-requires
 find-requires c κs =
-    let s = c .before .before in
-    (used-inside (now (s .args .arena)) (s .args .k .used) (s .pre .0 .inside), s .pre .1)
+    let s = c .before .before .before in
+    (used-inside (now (s .args .arena)) (s .args .k .used) (s .pre .0 .inside), s .pre .1, s .pre .2)
 
 -- what the search found
 module _ (c : tie.After-find) where
   abbrev s : tie.Start
-  s = c .before .before .before
+  s = c .before .before .before .before
 
-  is : (x : Found) → c .find .result ≡ x → sought (now (s .args .arena)) (s .args .k .used) (now (s .args .table)) (s .args .term) ≡ x
+  is : (x : Found) → c .find .result ≡ x → sought (now (s .args .arena)) (s .args .k .used) (now (s .args .table)) (now (s .args .name)) ≡ x
   is x e = sym (c .find .ensures) ∙ e
 
 enum-told : tie.Need-enum-told
@@ -37,7 +37,7 @@ place-at-requires : tie.Need-place-at-requires
 place-at-requires c κs =
     let f = c .before .before .before in
     let a = s f .args in
-    (s f .pre .0, search-at (now (a .arena)) (a .k .used) (now (a .table)) (a .term) _ (is f _ (c .before .h .given .1)) .below)
+    (s f .pre .0, search-at (now (a .arena)) (a .k .used) (now (a .table)) (now (a .name)) _ (is f _ (c .before .h .given .1)) .below)
 
 returns : tie.Need-returns
 unfolding placed

@@ -21,8 +21,14 @@ m s = memory (now (s .args .arena)) (now (s .args .table)) (s .args .k)
 abbrev frame : tie.Start → List ℕ
 frame s = now (s .args .frame)
 
-check-report-requires : tie.Need-check-report-requires
-check-report-requires c κs = search needs
+slice-aggregate-read-report : tie.Need-slice-aggregate-read-report
+slice-aggregate-read-report c = search needs
+
+slice-aggregate-read-report-2 : tie.Need-slice-aggregate-read-report-2
+slice-aggregate-read-report-2 c = search needs
+
+read-report-requires : tie.Need-read-report-requires
+read-report-requires c κs = (omega arith, omega arith)
 
 enum-known-n : tie.Need-enum-known-n
 enum-known-n c = search needs
@@ -36,13 +42,22 @@ enum-told c = search needs
 -- a sound frame
 module _ (c : tie.After-enum-told) where
   abbrev s : tie.Start
-  s = c .before .before .before .before .before .before
+  s = c .before .before .before .before .before .before .before .before .before .before
+
+  abbrev r : tie.After-read-report
+  r = c .before .before .before .before
 
   sound : reportRefusal (frame s) ≡ 0
-  sound = lines-sound (frame s) _ (sym (c .before .before .check-report .ensures) ∙ c .enum-told .given .1) .0
+  sound = lines-sound (frame s) _ (sym (r .read-report .ensures .0) ∙ c .enum-told .given .1) .0
+
+slice-aggregate-judge-report : tie.Need-slice-aggregate-judge-report
+slice-aggregate-judge-report c = search needs
+
+slice-aggregate-judge-report-2 : tie.Need-slice-aggregate-judge-report-2
+slice-aggregate-judge-report-2 c = search needs
 
 judge-report-requires : tie.Need-judge-report-requires
-judge-report-requires c κs = sound (c .before .before)
+judge-report-requires c κs = let e = c .before .before .before .before in (sound e, r e .read-report .ensures .1 (sound e))
 
 refused-requires-2 : tie.Need-refused-requires-2
 refused-requires-2 c κs = search needs
@@ -57,14 +72,14 @@ returns : tie.Need-returns
 unfolding takenOf
 returns c =
     let j = c .before .before in
-    let e = j .before .before .before in
+    let e = j .before .before .before .before .before in
     rw (c .refused2 .ensures, j .judge-report .ensures)
     (answers (m (s e)) (frame (s e)) (call-refused (m (s e)) (frame (s e)) (rw (← j .judge-report .ensures) (c .before .if1 .taken))))
 
 -- a call that is not refused
 module _ (c : tie.Else1) where
   abbrev e : tie.After-enum-told
-  e = c .before .before .before .before
+  e = c .before .before .before .before .before .before
 
   judges : callRefusal (m (s e)) (frame (s e)) ≡ 0
   judges = sym (c .before .judge-report .ensures) ∙ c .if1 .left
@@ -74,8 +89,14 @@ module _ (c : tie.Else1) where
       let w : Judged (m (s e)) (frame (s e)) = judged (m (s e)) (frame (s e)) judges in
       held-right (m (s e)) (w .counters) (w .numbered) (omega arith)
 
+slice-aggregate-write-lines : tie.Need-slice-aggregate-write-lines
+slice-aggregate-write-lines c = search needs
+
+slice-aggregate-write-lines-2 : tie.Need-slice-aggregate-write-lines-2
+slice-aggregate-write-lines-2 c = search needs
+
 write-lines-requires : tie.Need-write-lines-requires
-write-lines-requires c κs = let i = c .before .before in (held i, sound (e i))
+write-lines-requires c κs = let i = c .before .before .before .before in (held i, sound (e i), r (e i) .read-report .ensures .1 (sound (e i)))
 
 refused-requires-3 : tie.Need-refused-requires-3
 refused-requires-3 c κs = search needs
@@ -90,22 +111,22 @@ returns-2 : tie.Need-returns-2
 unfolding takenOf
 returns-2 c =
     let w = c .before .before .before .before .before .before .before in
-    let i = w .before .before .before in
+    let i = w .before .before .before .before .before in
     let k = s (e i) in
     rw (c .refused3 .ensures)
     (answers (m k) (frame k) (call-stopped (m k) (frame k) (judges i) (w .write-lines .ensures) (c .before .if2 .taken)))
 
 add-number : tie.Need-add-number
 add-number c =
-    let i = c .before .before .before .before .before .before .before .before .before .before in
+    let i = c .before .before .before .before .before .before .before .before .before .before .before .before in
     omega (arith, held i .room .numbered)
 
 returns-3 : tie.Need-returns-3
 unfolding takenOf
 returns-3 c =
     let n = c .before .before in
-    let k = n .before .before .before .before .before .before in
-    let r = report-refused (frame k) _ (sym (n .before .before .check-report .ensures) ∙ n .n .given .1) in
+    let k = n .before .before .before .before .before .before .before .before .before .before in
+    let r = report-refused (frame k) _ (sym (n .before .before .before .before .read-report .ensures .0) ∙ n .n .given .1) in
     rw (c .refused .ensures, ← r .0)
     (answers (m k) (frame k) (call-frame-refused (m k) (frame k) (omega (arith, r .0, r .1))))
 
@@ -119,7 +140,7 @@ returns-4 : tie.Need-returns-4
 unfolding takenOf
 returns-4 c =
     let w = c .before .before .before .before .before .before .before in
-    let i = w .before .before .before in
+    let i = w .before .before .before .before .before in
     let k = s (e i) in
     answers (m k) (frame k) (call-taken (m k) (frame k) (judges i) (w .write-lines .ensures) (c .before .if2 .left))
 
@@ -127,15 +148,21 @@ pub take-report-spec : {M : Type 1} → statement M
 take-report-spec =
     tie.close
     (tie.spec
-    check-report-requires
+    slice-aggregate-read-report
+    slice-aggregate-read-report-2
+    read-report-requires
     enum-known-n
     refused-requires
     enum-told
+    slice-aggregate-judge-report
+    slice-aggregate-judge-report-2
     judge-report-requires
     refused-requires-2
     same-length
     same-length-2
     returns
+    slice-aggregate-write-lines
+    slice-aggregate-write-lines-2
     write-lines-requires
     refused-requires-3
     same-length-3

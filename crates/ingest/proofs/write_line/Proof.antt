@@ -22,13 +22,13 @@ use Rattle.ingest.proofs.write_line.Tie as tie
 -- what is known of the place
 module _ (c : tie.After-struct-known) where
   abbrev s : tie.Start
-  s = c .before .before .before
+  s = c .before .before .before .before
 
   abbrev m : Memory
   m = memory (now (s .args .arena)) (now (s .args .table)) (s .args .k)
 
-  at : (x : Place) → s .args .p ≡ x → Seat (m .arena) (m .table) (m .counters) (s .args .term) (s .args .count) x
-  at x e = seat (m .arena) (m .table) (m .counters) (s .args .term) (s .args .count) x (sym e ∙ s .pre .found)
+  at : (x : Place) → s .args .p ≡ x → Seat (m .arena) (m .table) (m .counters) (now (s .args .name)) (s .args .count) x
+  at x e = seat (m .arena) (m .table) (m .counters) (now (s .args .name)) (s .args .count) x (sym e ∙ s .pre .found)
 
   judged : (x : Place) → s .args .p ≡ x → firstOf (planRows m (planOf (x ∷ []))) ≡ 0
   judged x e = sym (ap (λ (p : Place). firstOf (planRows m (planOf (p ∷ [])))) e) ∙ s .pre .judged
@@ -108,7 +108,7 @@ enter-at-requires c κs =
     let t = p .before .before in
     let slot = p .p3 .given .0 .0 in
     let some = maxTerms-slots (m t .table) (omega (arith, opens p .1)) in
-    let free = search-unknown (m t .arena) (m t .counters .used) (m t .table) (s t .args .term) slot some (at t _ (p .p3 .given .1)) in
+    let free = search-unknown (m t .arena) (m t .counters .used) (m t .table) (now (s t .args .name)) slot some (at t _ (p .p3 .given .1)) in
     (omega (arith, free .0, slots-le (m t .table)), omega (arith, opens p .0, capacity-word (m t .arena)))
 
 add-t31 : tie.Need-add-t31

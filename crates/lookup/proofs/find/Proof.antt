@@ -12,8 +12,7 @@ use borrow.Author.Tests.{lt-ltb, le-ltb, eq-eqb, ne-eqb}
 use lib.Dec.{ltb, eqb}
 use lib.ListN.{getD}
 use Rattle.basics.specs.Lists.{same}
-use Rattle.terms.specs.Terms.{nameIn}
-use Rattle.terms.specs.declared.Term.{Term}
+use Rattle.terms.specs.Terms.{fnv1a}
 use Rattle.blocks.specs.Fields.{nameOf}
 use Rattle.lookup.specs.Lookup.{slots, nextSlot, searchFrom, search as sought}
 use Rattle.lookup.specs.declared.Found.{Found}
@@ -23,33 +22,34 @@ use Rattle.lookup.proofs.find.Statement.{statement}
 use Rattle.lookup.proofs.find.Tie as tie
 
 abbrev Inv-loop : tie.InvT-loop
-Inv-loop arena used table term t slot₀ left₀ slot left = (slot < t) × (sought arena used table term ≡ searchFrom left arena used table (nameIn term) slot)
+Inv-loop arena used table name hash t slot₀ left₀ slot left =
+    (slot < t) × (sought arena used table name ≡ searchFrom left arena used table name slot)
 
 abbrev μ-loop : tie.MeasureT-loop
-μ-loop arena used table term t slot₀ left₀ slot left = left
+μ-loop arena used table name hash t slot₀ left₀ slot left = left
 
 -- all slots are left
-begun : (a : List ℕ) (used : ℕ) (table : List ℕ) (term : Term) (t : ℕ) → t ≡ slots table → 0 < t
-    → (term .hash % t < t) × (sought a used table term ≡ searchFrom t a used table (nameIn term) (term .hash % t))
-begun a used table term t e h = (mod-lt (term .hash) h, rw e (search-some a used table term (omega arith)))
+begun : (a : List ℕ) (used : ℕ) (table w : List ℕ) (hash t : ℕ) → t ≡ slots table → 0 < t → hash ≡ fnv1a w
+    → (hash % t < t) × (sought a used table w ≡ searchFrom t a used table w (hash % t))
+begun a used table w hash t e h x = (mod-lt hash h, rw (e, x) (search-some a used table w (omega arith)))
 
 slots-of-requires : tie.Need-slots-of-requires Inv-loop μ-loop
 slots-of-requires c κs = search needs
 
 returns : tie.Need-returns Inv-loop μ-loop
 returns c =
-    let s = c .before .before .before .before in
-    sym (search-none (s .args .arena .now) (s .args .used) (s .args .table .now) (s .args .term) (sym (c .before .slots-of .ensures) ∙ c .if1 .taken))
+    let s = c .before .before .before .before .before in
+    sym (search-none (s .args .arena .now) (s .args .used) (s .args .table .now) (s .args .name .now) (sym (c .before .slots-of .ensures) ∙ c .if1 .taken))
 
 rem-slot : tie.Need-rem-slot Inv-loop μ-loop
 rem-slot c = search needs
 
 loop-holds : tie.Need-loop-holds Inv-loop μ-loop
 loop-holds c =
-    let k = c .before .before in
-    let s = k .before .before .before in
-    let h : 0 < k .slots-of .result = omega (arith, c .before .if1 .left) in
-    begun (s .args .arena .now) (s .args .used) (s .args .table .now) (s .args .term) (k .slots-of .result) (k .slots-of .ensures) h
+    let k = c .before in
+    let s = k .before .before .before .before in
+    let h : 0 < k .slots-of .result = omega (arith, c .if1 .left) in
+    begun (s .args .arena .now) (s .args .used) (s .args .table .now) (s .args .name .now) (s .args .hash) (k .slots-of .result) (k .slots-of .ensures) h (s .pre .2)
 
 cast-e : tie.Need-cast-e Inv-loop μ-loop
 cast-e c = search needs
@@ -71,14 +71,14 @@ module _ (c : tie.In-loop Inv-loop μ-loop) where
 
   abbrev rest : Found
   rest =
-      searchFrom (c .before .loop .left - 1) (s .args .arena .now) (s .args .used) (s .args .table .now) (nameIn (s .args .term)) (nextSlot (slots (s .args .table .now)) (c .before .loop .slot))
+      searchFrom (c .before .loop .left - 1) (s .args .arena .now) (s .args .used) (s .args .table .now) (s .args .name .now) (nextSlot (slots (s .args .table .now)) (c .before .loop .slot))
 
-  whole : sought (s .args .arena .now) (s .args .used) (s .args .table .now) (s .args .term)
+  whole : sought (s .args .arena .now) (s .args .used) (s .args .table .now) (s .args .name .now)
       ≡ cond (eqb entry 0) (Unknown (c .before .loop .slot))
-      (cond (ltb (entry - 1) (s .args .used)) (cond (same (nameOf (s .args .arena .now) (entry - 1)) (nameIn (s .args .term))) (At (entry - 1)) rest) Damaged)
+      (cond (ltb (entry - 1) (s .args .used)) (cond (same (nameOf (s .args .arena .now) (entry - 1)) (s .args .name .now)) (At (entry - 1)) rest) Damaged)
   whole =
       c .before .loop .inv .1
-      ∙ from-some (s .args .arena .now) (s .args .used) (s .args .table .now) (nameIn (s .args .term)) (c .before .loop .left) (c .before .loop .slot) (c .loop-test .taken)
+      ∙ from-some (s .args .arena .now) (s .args .used) (s .args .table .now) (s .args .name .now) (c .before .loop .left) (c .before .loop .slot) (c .loop-test .taken)
 
 returns-2 : tie.Need-returns-2 Inv-loop μ-loop
 returns-2 c =
@@ -93,23 +93,23 @@ returns-3 c =
     let k = c .before .before .before in
     sym (whole k ∙ rw (ne-eqb (entry k) 0 (c .before .if2 .left), le-ltb (entry k - 1) (s k .args .used) (omega arith)))
 
-sub-holds-term : tie.Need-sub-holds-term Inv-loop μ-loop
-sub-holds-term c = search needs
+sub-holds-name : tie.Need-sub-holds-name Inv-loop μ-loop
+sub-holds-name c = search needs
 
-holds-term-requires : tie.Need-holds-term-requires Inv-loop μ-loop
-holds-term-requires c κs = search needs
+holds-name-requires : tie.Need-holds-name-requires Inv-loop μ-loop
+holds-name-requires c κs = search needs
 
-sub-t16 : tie.Need-sub-t16 Inv-loop μ-loop
-sub-t16 c = search needs
+sub-t17 : tie.Need-sub-t17 Inv-loop μ-loop
+sub-t17 c = search needs
 
 -- a block that is used gives what the comparison says
-module _ (c : tie.After-holds-term Inv-loop μ-loop) where
+module _ (c : tie.After-holds-name Inv-loop μ-loop) where
   abbrev k : tie.In-loop Inv-loop μ-loop
   k = c .before .before .before .before
 
-  compared : (b : Bool) → c .holds-term .result ≡ b → sought (s k .args .arena .now) (s k .args .used) (s k .args .table .now) (s k .args .term) ≡ cond b (At (entry k - 1)) (rest k)
+  compared : (b : Bool) → c .holds-name .result ≡ b → sought (s k .args .arena .now) (s k .args .used) (s k .args .table .now) (s k .args .name .now) ≡ cond b (At (entry k - 1)) (rest k)
   compared b e =
-      let q : same (nameOf (s k .args .arena .now) (entry k - 1)) (nameIn (s k .args .term)) ≡ b = sym (c .holds-term .ensures) ∙ e in
+      let q : same (nameOf (s k .args .arena .now) (entry k - 1)) (s k .args .name .now) ≡ b = sym (c .holds-name .ensures) ∙ e in
       whole k ∙ rw (ne-eqb (entry k) 0 (c .before .before .if2 .left), lt-ltb (entry k - 1) (s k .args .used) (c .before .if3 .left), q)
 
 returns-4 : tie.Need-returns-4 Inv-loop μ-loop
@@ -129,7 +129,7 @@ next-slot : (c : tie.Joined5 Inv-loop μ-loop) → c .if5 .slot ≡ nextSlot (sl
 next-slot c =
     let l = k (c .before .before) .before in
     let t = slots (s (k (c .before .before)) .args .table .now) in
-    let e = l .before .before .before .slots-of .ensures in
+    let e = l .before .before .slots-of .ensures in
     ⊎-elim (λ w. w .1 ∙ sym (next-last t (l .loop .slot) (w .0 .taken ∙ e))) (λ w. w .1 ∙ sym (next-plain t (l .loop .slot) (λ q. w .0 .left (q ∙ sym e)))) (c .if5 .came)
 
 loop-again : tie.Need-loop-again Inv-loop μ-loop
@@ -137,16 +137,16 @@ loop-again c =
     let h = c .before .before in
     let l = k h .before in
     let a = s (k h) .args in
-    let e = l .before .before .before .slots-of .ensures in
+    let e = l .before .before .slots-of .ensures in
     let low : l .loop .slot < slots (a .table .now) = omega (arith, e, l .loop .inv .0) in (
       omega (arith, e, next-slot c, next-lt (slots (a .table .now)) (l .loop .slot) low),
-      compared h false (c .before .if4 .left) ∙ ap (λ (n : ℕ). searchFrom (l .loop .left - 1) (a .arena .now) (a .used) (a .table .now) (nameIn (a .term)) n) (sym (next-slot c)),
+      compared h false (c .before .if4 .left) ∙ ap (λ (n : ℕ). searchFrom (l .loop .left - 1) (a .arena .now) (a .used) (a .table .now) (a .name .now) n) (sym (next-slot c)),
     )
 
 returns-5 : tie.Need-returns-5 Inv-loop μ-loop
 returns-5 c =
     let a = c .before .before .before .before .before .before .before .args in
-    sym (c .before .loop .inv .1 ∙ from-none (a .arena .now) (a .used) (a .table .now) (nameIn (a .term)) (c .before .loop .left) (c .before .loop .slot) (c .loop-test .left))
+    sym (c .before .loop .inv .1 ∙ from-none (a .arena .now) (a .used) (a .table .now) (a .name .now) (c .before .loop .left) (c .before .loop .slot) (c .loop-test .left))
 
 pub find-spec : {M : Type 1} → statement M
 find-spec =
@@ -164,9 +164,9 @@ find-spec =
     returns-2
     sub-if3
     returns-3
-    sub-holds-term
-    holds-term-requires
-    sub-t16
+    sub-holds-name
+    holds-name-requires
+    sub-t17
     returns-4
     add-slot
     sub-left

@@ -11,7 +11,7 @@ use lib.Seq.{length-take-le}
 use denote.Ref.{now}
 use borrow.Author.Tests.{not-false}
 use Rattle.terms.specs.Terms.{maxTerm}
-use Rattle.terms.proofs.Laws.{term-length, termOf-length}
+use Rattle.terms.proofs.Laws.{term-length}
 
 returns : tie.Need-returns
 returns c = search needs
@@ -52,16 +52,13 @@ read-word-requires c κs = search needs
 returns-4 : tie.Need-returns-4
 returns-4 c = search needs
 
-slice-aggregate-open-head : tie.Need-slice-aggregate-open-head
-slice-aggregate-open-head c = search needs
+slice-aggregate-open-first : tie.Need-slice-aggregate-open-first
+slice-aggregate-open-first c = search needs
 
 short : (c : tie.Else3) → length (take (1 + c .before .before .before .before .wide .result - 1) (drop 1 (now (c .before .before .before .before .before .before .before .before .args .payload)))) ≤ maxTerm
 short c =
     term-length (take (1 + c .before .before .before .before .wide .result - 1) (drop 1 (now (c .before .before .before .before .before .before .before .before .args .payload))))
     (sym (c .before .is-term .ensures) ∙ not-false _ (c .if3 .left)) .1
-
-fold-requires : tie.Need-fold-requires
-fold-requires c κs = short (c .before .before .before)
 
 add-read-word : tie.Need-add-read-word
 add-read-word c = search needs
@@ -69,10 +66,8 @@ add-read-word c = search needs
 read-word-requires-2 : tie.Need-read-word-requires-2
 read-word-requires-2 c κs = search needs
 
-open-head-requires : tie.Need-open-head-requires
-open-head-requires c κs =
-    let s = short (c .before .before .before .before .before) in
-    (rw (c .before .fold .ensures, termOf-length _) s, omega arith, omega arith)
+open-first-requires : tie.Need-open-first-requires
+open-first-requires c κs = (short (c .before .before .before .before), omega arith, omega arith)
 
 slice-aggregate-put-postings : tie.Need-slice-aggregate-put-postings
 slice-aggregate-put-postings c = search needs
@@ -108,7 +103,7 @@ slice-aggregate-print-bytes : tie.Need-slice-aggregate-print-bytes
 slice-aggregate-print-bytes c =
     let p = c .before .before .before .before .before .before .before .before in
     let e = c .before .place-of in
-    let h : e .result ≤ length (p .put-postings .last .0) = omega (arith, e .ensures, p .put-postings .kept .0, p .before .before .before .open-head .kept .0) in
+    let h : e .result ≤ length (p .put-postings .last .0) = omega (arith, e .ensures, p .put-postings .kept .0, p .before .before .before .open-first .kept .0) in
     sym (length-take-le (e .result) (p .put-postings .last .0) h)
 
 print-bytes-requires-2 : tie.Need-print-bytes-requires-2
@@ -137,11 +132,10 @@ chain-spec =
     returns-3
     read-word-requires
     returns-4
-    slice-aggregate-open-head
-    fold-requires
+    slice-aggregate-open-first
     add-read-word
     read-word-requires-2
-    open-head-requires
+    open-first-requires
     slice-aggregate-put-postings
     add-put-postings
     put-postings-requires

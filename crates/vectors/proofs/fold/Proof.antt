@@ -39,9 +39,6 @@ short c =
 print-folded-requires : tie.Need-print-folded-requires
 print-folded-requires c κs = short c
 
-fold-requires : tie.Need-fold-requires
-fold-requires c κs = short (c .before)
-
 print-hash-requires : tie.Need-print-hash-requires
 print-hash-requires c κs = search needs
 
@@ -60,6 +57,5 @@ fold-spec =
     print-requires-2
     returns
     print-folded-requires
-    fold-requires
     print-hash-requires
     returns-2)

@@ -1,32 +1,33 @@
 -- `vectors::print_folded` meets its contract.
 -- Assumes nothing.
+use mathlib.Core.Path.{sym, ap, _∙_}
+use lib.ListN.{length}
+use Rattle.terms.proofs.Laws.{length-folded, folded-front}
 use borrow.Author.Needs.{needs}
 use Rattle.vectors.proofs.print_folded.Statement.{statement}
 use Rattle.vectors.proofs.print_folded.Tie as tie
-use native.Mathlib.Omega.{arith}
-use mathlib.Core.Path.{sym}
-use Prim.Native.Nat.{_≤_}
-use lib.ListN.{length}
-use lib.Seq.{length-take-le}
-use denote.Ref.{now}
-use Rattle.terms.proofs.Laws.{termOf-length, termOf-room}
+
+slice-aggregate-fold : tie.Need-slice-aggregate-fold
+slice-aggregate-fold c = search needs
 
 fold-requires : tie.Need-fold-requires
 fold-requires c κs = search needs
 
-within : (c : tie.After-fold) → c .fold .result .length ≤ length (c .fold .result .bytes)
-within c =
-    let s = now (c .before .before .args .term) in
-    rw (c .fold .ensures) (omega (arith, termOf-length s, termOf-room s (c .before .before .pre), c .before .before .pre))
-
 array-share-prefix-bytes : tie.Need-array-share-prefix-bytes
-array-share-prefix-bytes c = within (c .before)
+array-share-prefix-bytes c = search needs
 
-slice-aggregate-print-bytes : tie.Need-slice-aggregate-print-bytes
-slice-aggregate-print-bytes c = let p = c .before .before in sym (length-take-le (p .fold .result .length) (p .fold .result .bytes) (within p))
+slice-aggregate-name : tie.Need-slice-aggregate-name
+slice-aggregate-name c =
+    let o = c .before .before in
+    let s = o .before .before .before in
+    let t = s .args .term .now in
+    sym (ap length (folded-front t _ (o .fold .ensures) (s .pre)) ∙ length-folded t)
 
 print-bytes-requires : tie.Need-print-bytes-requires
 print-bytes-requires c κs = search needs
+
+fnv1a-requires : tie.Need-fnv1a-requires
+fnv1a-requires c κs = search needs
 
 returns : tie.Need-returns
 returns c = search needs
@@ -35,8 +36,10 @@ pub print-folded-spec : {M : Type 1} → statement M
 print-folded-spec =
     tie.close
     (tie.spec
+    slice-aggregate-fold
     fold-requires
     array-share-prefix-bytes
-    slice-aggregate-print-bytes
+    slice-aggregate-name
     print-bytes-requires
+    fnv1a-requires
     returns)
