@@ -1,5 +1,7 @@
 pub mod Steps
 pub mod Places
+pub mod Passing
 pub mod Parts
 pub mod Laws
+pub mod Skipping
 pub mod Counting

@@ -1,11 +1,12 @@
 // Chains of blocks (document 01, "Blocks"): a cursor that gives one posting after another, and reading a whole chain for damage.
 ghost use mathlib.Core.Path.{_≡_};
-ghost use mathlib.Core.Bool.{false};
+ghost use mathlib.Core.Bool.{cond, _||_};
 ghost use Prim.Native.Nat.{_+_, _≤_, _<_};
-ghost use lib.ListN.{length};
-ghost use Rattle.blocks.specs.Fields.{place, headOf};
+ghost use lib.Dec.{leb, eqb};
+ghost use lib.ListN.{length, getD};
+ghost use Rattle.blocks.specs.Fields.{blockSize, place, partOf};
 ghost use Rattle.chains.specs.Chains.{partEnd, exhausted, readAt, nextBlock, stepAt, stepFrom, atHead, badHead, chainOf, isWhole, Follows};
-ghost use Rattle.chains.specs.Parts.{movedTo, InPart, Within};
+ghost use Rattle.chains.specs.Parts.{passed, movedTo, passedTo, InPart, partRead};
 use blocks::Head;
 use postings::Decoded;
 
@@ -31,6 +32,18 @@ pub enum Step {
     Damaged,
 }
 
+// Whether the postings of block b, which is no tail, end at offset `at`: at the block's end or a null byte.
+fn ends_at(arena: &[u8], b: u32, at: usize) -> bool
+    requires { ⌜ place b + 64 ≤ length (now arena) ⌝ }
+    ensures { λ r. ⌜ r ≡ leb blockSize at || eqb (getD (now (arena .entry)) (place b + at) 0) 0 ⌝ }
+{
+    if 64 <= at {
+        return true;
+    }
+    let from = blocks::place_of(b);
+    arena[from + at] == 0
+}
+
 // Whether the part of the cursor's block is read to its end.
 fn is_exhausted(arena: &[u8], c: Cursor) -> bool
     requires { ⌜ place (c .block) + 64 ≤ length (now arena) ⌝ }
@@ -40,11 +53,7 @@ fn is_exhausted(arena: &[u8], c: Cursor) -> bool
     if c.block == c.tail {
         return c.end <= at;
     }
-    if 64 <= at {
-        return true;
-    }
-    let from = blocks::place_of(c.block);
-    arena[from + at] == 0
+    ends_at(arena, c.block, at)
 }
 
 // Where the part of the cursor's block ends.
@@ -95,7 +104,7 @@ fn read_at(arena: &[u8], reports: u32, c: Cursor, base: u32) -> Step
 }
 
 // The first posting of the next block.
-fn next_block(arena: &[u8], used: u32, reports: u32, c: Cursor) -> Step
+pub fn next_block(arena: &[u8], used: u32, reports: u32, c: Cursor) -> Step
     requires { ⌜ Follows (now arena) used c × (4 ≤ c .end) ⌝ }
     ensures { λ r. ⌜ r ≡ nextBlock (now (arena .entry)) used reports c ⌝ }
 {
@@ -141,10 +150,54 @@ pub fn advance(arena: &[u8], used: u32, reports: u32, c: Cursor) -> Step
 
 // ---- several steps within a block's part
 
-// How many postings were passed, and the place behind them.
+// Where reading on in a part stopped: the offset and the number behind the last posting passed, and how many were passed.
 pub struct Passed {
+    pub at: usize,
+    pub number: u32,
     pub postings: u32,
-    pub place: Cursor,
+}
+
+// Reads on in a block's part while numbers are below `to`: to the part's end, or to where no sound posting stands. One loop over plain numbers,
+// without a cursor for each posting.
+pub fn pass(part: &[u8], reports: u32, at: usize, number: u32, to: u32) -> Passed
+    requires { ⌜ number ≤ reports ⌝ }
+    ensures { λ r. ⌜ r ≡ passed (now (part .entry)) reports at number to ⌝ }
+{
+    let mut p = at;
+    let mut n = number;
+    let mut postings: u32 = 0;
+    while p < part.len() && n < to {
+        match postings::decode_at(part, p) {
+            Decoded::Rejected => {
+                return Passed {
+                    at: p,
+                    number: n,
+                    postings,
+                };
+            }
+            Decoded::Posting {
+                gap,
+                count: _,
+                length,
+            } => {
+                if reports - n < gap {
+                    return Passed {
+                        at: p,
+                        number: n,
+                        postings,
+                    };
+                }
+                n += gap;
+                p += length;
+                postings += 1;
+            }
+        }
+    }
+    Passed {
+        at: p,
+        number: n,
+        postings,
+    }
 }
 
 // The cursor's place with another offset in the same block.
@@ -162,35 +215,15 @@ pub fn moved(c: Cursor, at: usize, number: u32) -> Cursor
     }
 }
 
-// Goes on from a block's first posting while numbers are below `to`: to the end of the part, or to where no sound posting stands. The bytes of
-// a part are decoded in one loop, without a cursor for each posting.
-pub fn pass_part(arena: &[u8], reports: u32, c: Cursor, to: u32) -> Passed
+// The cursor's place behind what is passed of its block's part, from behind its first posting on.
+pub fn pass_part(arena: &[u8], reports: u32, c: Cursor, to: u32) -> Cursor
     requires { ⌜ InPart (now arena) reports c ⌝ }
-    ensures { λ r. ⌜ Within (now (arena .entry)) reports to c (r .postings) (r .place) ⌝ }
+    ensures { λ r. ⌜ r ≡ passedTo (now (arena .entry)) reports c to ⌝ }
 {
     let start = blocks::place_of(c.block);
     let end = start + part_end(c);
-    let part = &arena[start..end];
-    let mut at = c.at;
-    let mut number = c.number;
-    let mut postings: u32 = 0;
-    while at < part.len() && number < to {
-        let g = postings::gap_of(&part[at..]);
-        let gap = g.gap;
-        if gap == 0 || reports - number < gap {
-            return Passed {
-                postings,
-                place: moved(c, at, number),
-            };
-        }
-        number += gap;
-        at += g.length;
-        postings += 1;
-    }
-    Passed {
-        postings,
-        place: moved(c, at, number),
-    }
+    let p = pass(&arena[start..end], reports, c.at, c.number, to);
+    moved(c, p.at, p.number)
 }
 
 // ---- a reader that holds the arena and a place
@@ -244,6 +277,12 @@ pub fn read_next(arena: &[u8], used: u32, reports: u32, place: Cursor) -> Step
 
 // ---- a whole chain
 
+// What was read of a block's part: its first number, 0 where no sound posting stands there, and where reading on from behind it stopped.
+pub struct PartRead {
+    pub first: u32,
+    pub rest: Passed,
+}
+
 // A tail that is not used, or a write offset out of place.
 pub fn is_bad_head(d: Head, used: u32, h: u32) -> bool
     requires { ⌜ d .length < 256 ⌝ }
@@ -274,7 +313,49 @@ pub fn at_head(d: Head, used: u32, h: u32) -> Cursor
     }
 }
 
-// Reads the chain of head h whole: whether it is sound. Each turn takes the first posting of a block, then those behind it.
+// Where the postings of block b end in the chain of a head.
+fn end_in(d: Head, b: u32) -> usize
+    ensures { λ r. ⌜ r ≡ cond (eqb b (d .tail)) (d .end) blockSize ⌝ }
+{
+    if b == d.tail { d.end } else { 64 }
+}
+
+// Reads a block's part up to offset `end`: its first posting, whose gap counts from `base`, and those behind it.
+fn read_part(arena: &[u8], reports: u32, b: u32, at: usize, end: usize, base: u32) -> PartRead
+    requires { ⌜ (place b + end ≤ length (now arena)) × (base ≤ reports) ⌝ }
+    ensures { λ r. ⌜ r ≡ partRead (partOf (now (arena .entry)) b 0 end) reports at base ⌝ }
+{
+    let start = blocks::place_of(b);
+    let to = start + end;
+    let part = &arena[start..to];
+    if at < part.len() {
+        match postings::decode_at(part, at) {
+            Decoded::Rejected => {}
+            Decoded::Posting {
+                gap,
+                count: _,
+                length,
+            } => {
+                if gap <= reports - base {
+                    let first = base + gap;
+                    let rest = pass(part, reports, at + length, first, reports);
+                    return PartRead { first, rest };
+                }
+            }
+        }
+    }
+    PartRead {
+        first: 0,
+        rest: Passed {
+            at,
+            number: 0,
+            postings: 0,
+        },
+    }
+}
+
+// Reads the chain of head h whole: whether it is sound. Each turn reads a block on plain numbers; `base` is the first number of the block before, 0
+// at the head, and `last` the last number read.
 pub fn is_sound(arena: &[u8], used: u32, reports: u32, h: u32) -> bool
     requires { ⌜ (place used ≤ length (now arena)) × (h < used) ⌝ }
     ensures { λ r. ⌜ r ≡ isWhole (chainOf (now (arena .entry)) used reports h) ⌝ }
@@ -283,25 +364,39 @@ pub fn is_sound(arena: &[u8], used: u32, reports: u32, h: u32) -> bool
     if is_bad_head(d, used, h) {
         return false;
     }
-    let mut c = at_head(d, used, h);
+    let mut b = h;
+    let mut at = 18 + d.length;
+    let mut base: u32 = 0;
+    let mut last: u32 = 0;
     let mut n: u32 = 0;
+    let mut left = used - 1;
     loop {
-        match advance(arena, used, reports, c) {
-            Step::Damaged => {
+        let end = end_in(d, b);
+        let r = read_part(arena, reports, b, at, end, base);
+        if r.first <= last {
+            return false;
+        }
+        let p = r.rest;
+        n += 1 + p.postings;
+        last = p.number;
+        if b == d.tail {
+            if p.at < d.end {
                 return false;
             }
-            Step::End => {
-                return n == d.postings && c.number == d.last;
-            }
-            Step::Posting {
-                number: _,
-                count: _,
-                next,
-            } => {
-                let p = pass_part(arena, reports, next, reports);
-                c = p.place;
-                n += 1 + p.postings;
-            }
+            return n == d.postings && last == d.last;
         }
+        if left == 0 {
+            return false;
+        }
+        if !ends_at(arena, b, p.at) {
+            return false;
+        }
+        b = blocks::link_of(arena, b);
+        if used <= b {
+            return false;
+        }
+        at = 4;
+        base = r.first;
+        left -= 1;
     }
 }

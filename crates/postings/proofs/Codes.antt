@@ -1,20 +1,19 @@
 -- Laws of a posting's code: decoding undoes coding, and coding undoes decoding.
 -- Assumes nothing.
 use mathlib.Core.Path.{_≡_, refl, sym, ap, _∙_}
-use mathlib.Core.List.{List, [], _∷_, _++_, append-assoc}
+use mathlib.Core.List.{List, _∷_, _++_, append-assoc}
 use mathlib.Core.Logic.{_⊎_, inl, inr}
-use Prim.Native.Nat.{ℕ, _+_, _-_, _*_, _/_, _%_, _≤_, _<_}
+use Prim.Native.Nat.{ℕ, suc, _+_, _-_, _*_, _/_, _%_, _≤_, _<_}
 use native.Mathlib.Omega.{arith}
+use native.Mathlib.Numerals.{add-one}
 use lib.ListN.{length, take, drop, getD, length-append}
-use lib.Seq.{drop-append-seam, take-append-seam, drop-drop}
+use lib.Seq.{drop-cons, drop-append-seam, take-append-seam, drop-drop}
 use borrow.Author.Tests.{lt-ltb, le-ltb, le-leb, lt-leb}
 use Rattle.postings.specs.declared.Value.the-variants.{Number, NoValue}
-use Rattle.postings.specs.declared.Decoded.{Decoded}
-use Rattle.postings.specs.declared.Gap.{Gap}
 use Rattle.postings.specs.declared.Decoded.the-variants.{Posting, Rejected}
-use Rattle.postings.specs.Coding.{threshold, maxGap, maxCount, maxFirst, maxSecond, vbyte, code, value, atMost, second, first, decoded, shortGap, gapIn}
-use Rattle.basics.proofs.Cases.{by-lt, by-eq}
-use Rattle.postings.proofs.Values.{value-last, value-vbyte, Front, View, view}
+use Rattle.postings.specs.Coding.{threshold, maxGap, maxCount, maxFirst, maxSecond, vbyte, code, value, atMost, onto, second, first, decoded}
+use Rattle.basics.proofs.Cases.{by-lt}
+use Rattle.postings.proofs.Values.{value-last, value-more, onto-number, value-vbyte, Front, View, view}
 
 pub code-low : (g f : ℕ) → f < threshold → code g f ≡ vbyte ((g - 1) * threshold + f)
 unfolding code
@@ -60,50 +59,6 @@ pub decoded-high : (s : List ℕ) (v l : ℕ) → atMost maxFirst (value s) ≡ 
 unfolding decoded
 decoded-high s v l e h = rw e (first-high s v l h)
 
--- a posting of one byte
-decoded-one : (s : List ℕ) → 0 < length s → getD s 0 0 < 128 → 0 < getD s 0 0 % 4 → decoded s ≡ Posting (getD s 0 0 / 4 + 1) (getD s 0 0 % 4) 1
-decoded-one [] h k p = absurd (omega arith)
-decoded-one (b ∷ s) h k p = decoded-low (b ∷ s) b 1 (ap (atMost maxFirst) (value-last b s (omega arith) k) ∙ at-most maxFirst b 1 (omega arith)) p
-
--- by the byte alone
-module _ (b : ℕ) where
-  pub short-high : 128 ≤ b → shortGap b ≡ 0
-  unfolding shortGap
-  short-high h = rw (le-ltb b 128 h)
-
-  pub short-whole : b % 4 ≡ 0 → shortGap b ≡ 0
-  unfolding shortGap
-  short-whole e = by-lt b 128 (λ h. rw (lt-ltb b 128 h, e)) short-high
-
-  pub short-low : b < 128 → 0 < b % 4 → shortGap b ≡ b / 4 + 1
-  unfolding shortGap
-  short-low h p = rw (lt-ltb b 128 h, lt-ltb 0 (b % 4) p)
-
-pub decoded-short : (s : List ℕ) → 0 < length s → 0 < shortGap (getD s 0 0) → decoded s ≡ Posting (shortGap (getD s 0 0)) (getD s 0 0 % 4) 1
-decoded-short s h p =
-    let b = getD s 0 0 in
-    by-lt b 128
-    (λ k.
-    by-eq (b % 4) 0 (λ z. absurd (omega (arith, short-whole b z)))
-    (λ z. let q : 0 < b % 4 = omega arith in decoded-one s h k q ∙ rw (short-low b k q)))
-    (λ k. absurd (omega (arith, short-high b k)))
-
--- ---- what a reader of gaps finds
-
-pub gap-posting : (g f l : ℕ) → gapIn (Posting g f l) ≡ record { gap = g; length = l }
-unfolding gapIn
-gap-posting g f l = refl
-
-pub gap-none : gapIn Rejected ≡ record { gap = 0; length = 0 }
-unfolding gapIn
-gap-none = refl
-
--- a gap above 0 is that of a posting
-pub gap-some : (x : Decoded) {r : Gap} → r ≡ gapIn x → 0 < r .gap → (f : ℕ) × (x ≡ Posting (r .gap) f (r .length))
-unfolding gapIn
-gap-some (Posting g f l) {r} e h = (f, sym (ap (λ (y : Gap). Posting (y .gap) f (y .length)) e))
-gap-some Rejected {r} e h = absurd (omega (arith, ap (λ (y : Gap). y .gap) e))
-
 pub second-number : (g l w m : ℕ) → second g l (Number w m) ≡ Posting g (w + 3) (l + m)
 unfolding second
 second-number g l w m = refl
@@ -111,6 +66,52 @@ second-number g l w m = refl
 pub second-none : (g l : ℕ) → second g l NoValue ≡ Rejected
 unfolding second
 second-none g l = refl
+
+-- ---- the short codes
+
+-- one byte below 128 that 4 does not divide
+decoded-one : (b : ℕ) (s : List ℕ) → b < 128 → 0 < b % threshold → decoded (b ∷ s) ≡ Posting (b / threshold + 1) (b % threshold) 1
+decoded-one b s h p = decoded-low (b ∷ s) b 1 (ap (atMost maxFirst) (value-last b s (omega arith) h) ∙ at-most maxFirst b 1 (omega arith)) p
+
+module _ (b d : ℕ) (s : List ℕ) (p : 0 < d) (h : d < 128) where
+  -- a value of one byte that 4 divides, and a count that takes one
+  decoded-pair : 0 < b → b < 128 → b % threshold ≡ 0 → decoded (b ∷ d ∷ s) ≡ Posting (b / threshold) (d + 3) 2
+  decoded-pair q k z =
+      decoded-high (b ∷ d ∷ s) b 1 (ap (atMost maxFirst) (value-last b (d ∷ s) q k) ∙ at-most maxFirst b 1 (omega arith)) z
+      ∙ ap (second (b / threshold) 1) (ap (atMost maxSecond) (value-last d s p h) ∙ at-most maxSecond d 1 (omega arith))
+      ∙ second-number (b / threshold) 1 d 1
+
+  -- a value of two bytes that 4 does not divide
+  decoded-two : 128 ≤ b → b < 256 → 0 < b % threshold → decoded (b ∷ d ∷ s) ≡ Posting ((b - 128 + 128 * d) / threshold + 1) (b % threshold) 2
+  decoded-two q k z =
+      let v : ℕ = b - 128 + 128 * d in
+      let e : v % threshold ≡ b % threshold = omega arith in
+      decoded-low (b ∷ d ∷ s) v 2
+      (ap (atMost maxFirst) (value-more b (d ∷ s) q k ∙ ap (onto b) (value-last d s p h) ∙ onto-number b d 1) ∙ at-most maxFirst v 2 (omega arith))
+      (omega arith)
+      ∙ rw e
+
+-- the same from an offset on
+module _ (s : List ℕ) (at : ℕ) (i : at < length s) where
+  abbrev b : ℕ
+  b = getD s at 0
+
+  pub at-one : b < 128 → 0 < b % threshold → decoded (drop at s) ≡ Posting (b / threshold + 1) (b % threshold) 1
+  at-one h p = rw (drop-cons s at 0 i) (decoded-one b (drop (suc at) s) h p)
+
+  module _ (j : at + 1 < length s) where
+    abbrev d : ℕ
+    d = getD s (at + 1) 0
+
+    both : drop at s ≡ b ∷ d ∷ drop (suc (at + 1)) s
+    both = drop-cons s at 0 i ∙ ap (λ (r : List ℕ). b ∷ r) (ap (λ (k : ℕ). drop k s) (sym (add-one at)) ∙ drop-cons s (at + 1) 0 j)
+
+    module _ (p : 0 < d) (h : d < 128) where
+      pub at-pair : 0 < b → b < 128 → b % threshold ≡ 0 → decoded (drop at s) ≡ Posting (b / threshold) (d + 3) 2
+      at-pair q k z = ap decoded both ∙ decoded-pair b d (drop (suc (at + 1)) s) p h q k z
+
+      pub at-two : 128 ≤ b → b < 256 → 0 < b % threshold → decoded (drop at s) ≡ Posting ((b - 128 + 128 * d) / threshold + 1) (b % threshold) 2
+      at-two q k z = ap decoded both ∙ decoded-two b d (drop (suc (at + 1)) s) p h q k z
 
 -- what a value that was read within a limit says
 pub read-number : (m : ℕ) (s : List ℕ) (v l : ℕ) → atMost m (value s) ≡ Number v l → (v ≤ m) × Front s v l

@@ -11,7 +11,7 @@ use Rattle.postings.specs.Coding.{vbyte, code, value, atMost, first, dec
 use Rattle.basics.proofs.Cases.{by-lt}
 use Rattle.postings.proofs.Values.{by-bytes, last, more, length-pos, length-le}
 use Rattle.postings.proofs.Codes.{code-low, code-high, length-high}
-pub use Rattle.postings.proofs.Codes.{Held, decode-code, decoded-held, code-decode, gap-some}
+pub use Rattle.postings.proofs.Codes.{Held, decode-code, decoded-held, code-decode}
 
 -- ---- the length
 

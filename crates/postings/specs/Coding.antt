@@ -7,7 +7,6 @@ use lib.Dec.{ltb, leb}
 use Rattle.postings.specs.declared.Value.{Value}
 use Rattle.postings.specs.declared.Value.the-variants.{Number, NoValue}
 use Rattle.postings.specs.declared.Decoded.{Decoded}
-use Rattle.postings.specs.declared.Gap.{Gap}
 use Rattle.postings.specs.declared.Decoded.the-variants.{Posting, Rejected}
 
 -- ---- the numbers of the coding
@@ -82,12 +81,3 @@ first s NoValue = Rejected
 -- the posting at the front of the bytes, and how many bytes it takes
 unfoldable pub decoded : List ℕ → Decoded
 decoded s = first s (atMost maxFirst (value s))
-
--- the gap of a posting that one byte holds; 0 where the byte alone is no posting
-unfoldable pub shortGap : ℕ → ℕ
-shortGap b = cond (ltb b 128) (cond (ltb 0 (b % threshold)) (b / threshold + 1) 0) 0
-
--- the gap of what was decoded and the bytes that the posting takes; a gap of 0 where there is none
-unfoldable pub gapIn : Decoded → Gap
-gapIn (Posting g f l) = record { gap = g; length = l }
-gapIn Rejected = record { gap = 0; length = 0 }

@@ -2,9 +2,9 @@
 // lowest first.
 ghost use mathlib.Core.Path.{_≡_};
 ghost use Prim.Native.Nat.{_+_, _-_, _≤_, _<_, _^_};
-ghost use lib.ListN.{length};
+ghost use lib.ListN.{length, drop};
 ghost use lib.Seq.{sets};
-ghost use Rattle.postings.specs.Coding.{vbyte, code, codeLength, value, atMost, decoded, shortGap, gapIn};
+ghost use Rattle.postings.specs.Coding.{vbyte, code, codeLength, value, atMost, decoded};
 ghost use Rattle.postings.specs.Claims.{RoundTrips};
 
 // The distance of a report from the last one in the chain.
@@ -41,12 +41,6 @@ pub enum Value {
 pub enum Decoded {
     Posting { gap: u32, count: u32, length: usize },
     Rejected,
-}
-
-// A gap and the bytes that its posting takes.
-pub struct Gap {
-    pub gap: u32,
-    pub length: usize,
 }
 
 // How many bytes code a value, by its length in bits.
@@ -215,56 +209,55 @@ fn decode_long(s: &[u8]) -> Decoded
     }
 }
 
-// The gap of a posting that one byte holds, as most do; 0 where the byte alone is no posting.
-fn short_gap(b: u8) -> u32
-    ensures { λ r. ⌜ r ≡ shortGap b ⌝ }
+// The posting that stands in s from `at` on. Most postings take one byte or two: these are read without a call, from the bytes as they stand.
+pub fn decode_at(s: &[u8], at: usize) -> Decoded
+    requires { ⌜ at < length (now s) ⌝ }
+    ensures { λ r. ⌜ r ≡ decoded (drop at (now (s .entry))) ⌝ }
 {
-    if 128 <= b {
-        return 0;
+    let b = s[at] as u32;
+    let f = b % 4;
+    if b < 128 && 0 < f {
+        return Decoded::Posting {
+            gap: b / 4 + 1,
+            count: f,
+            length: 1,
+        };
     }
-    if b % 4 == 0 {
-        return 0;
+    if at + 1 < s.len() {
+        let d = s[at + 1] as u32;
+        if 0 < d && d < 128 {
+            if b < 128 {
+                // 4 divides it: the second byte gives the count
+                if 0 < b {
+                    return Decoded::Posting {
+                        gap: b / 4,
+                        count: d + 3,
+                        length: 2,
+                    };
+                }
+            } else {
+                if 0 < f {
+                    return Decoded::Posting {
+                        gap: (b - 128 + 128 * d) / 4 + 1,
+                        count: f,
+                        length: 2,
+                    };
+                }
+            }
+        }
     }
-    b as u32 / 4 + 1
+    decode_long(&s[at..])
 }
 
-// The posting at the front of s.
+// The posting at the front of s. Long codes have two callers, so that the compiler does not take their reading into decode_at, which would then be
+// too long to be taken into the loops that call it.
 pub fn decode(s: &[u8]) -> Decoded
     ensures { λ r. ⌜ r ≡ decoded (now (s .entry)) ⌝ }
 {
     if 0 < s.len() {
-        let b = s[0] as u32;
-        let gap = short_gap(s[0]);
-        if 0 < gap {
-            return Decoded::Posting {
-                gap,
-                count: b % 4,
-                length: 1,
-            };
-        }
+        return decode_at(s, 0);
     }
     decode_long(s)
-}
-
-// The gap of the posting at the front of s and the bytes that the posting takes, for readers that do not ask for its count; a gap of 0 where there
-// is none.
-pub fn gap_of(s: &[u8]) -> Gap
-    ensures { λ r. ⌜ r ≡ gapIn (decoded (now (s .entry))) ⌝ }
-{
-    if 0 < s.len() {
-        let gap = short_gap(s[0]);
-        if 0 < gap {
-            return Gap { gap, length: 1 };
-        }
-    }
-    match decode_long(s) {
-        Decoded::Rejected => Gap { gap: 0, length: 0 },
-        Decoded::Posting {
-            gap,
-            count: _,
-            length,
-        } => Gap { gap, length },
-    }
 }
 
 // Demand 2, as a contract, so that the gate fails without it.

@@ -1,6 +1,6 @@
 -- A cursor that moves forward: which reports it has at it and behind it.
 -- Assumes nothing.
-use Prim.Native.Nat.{ℕ, _+_, _≤_, _<_}
+use Prim.Native.Nat.{ℕ, zero, suc, _+_, _-_, _≤_, _<_}
 use mathlib.Core.Path.{_≡_, refl, sym, ap, _∙_}
 use mathlib.Core.Bool.{Bool, true, false, _||_}
 use mathlib.Core.List.{List, [], _∷_}
@@ -16,14 +16,15 @@ use Rattle.blocks.specs.Prescribed.{Posting}
 use Rattle.chains.specs.declared.Cursor.{Cursor}
 use Rattle.chains.specs.declared.Step.{Step}
 use Rattle.chains.specs.declared.Step.the-variants as step
-use Rattle.chains.specs.Chains.{whole, isWhole, stepAt, atHead, chainOf}
-use Rattle.chains.specs.Parts.{Within, here, on}
-use Rattle.chains.proofs.Steps.{step-here}
-use Rattle.chains.proofs.Parts.{step-part}
+use Rattle.chains.specs.Chains.{whole, isWhole, exhausted, readAt, nextBlock, stepAt, atHead, chainOf}
+use Rattle.chains.specs.Parts.{movedTo, passedTo}
+use Rattle.chains.proofs.Steps.{step-next, step-here}
+use Rattle.chains.proofs.Parts.{Within, here, on, step-part, within-number, passed-to}
+use Rattle.chains.proofs.Skipping.{read-moved, next-earlier, read-more, next-more}
 use Rattle.chains.proofs.Laws.{step-follows, rest, whole-posting, whole-end, whole-undamaged, head-follows, head-rest, is-whole, chain-whole}
 use Rattle.counters.specs.declared.Counters.{Counters}
 use Rattle.query.specs.Listing.{postingsIn, holds}
-use Rattle.query.specs.Needs.{Readable, Stands, Sought, Opened, nowhere, ahead, postingsAt}
+use Rattle.query.specs.Needs.{Readable, Stands, Passing, Sought, Opened, nowhere, ahead, postingsAt}
 
 or-false : (a : Bool) → a || false ≡ a
 or-false true = refl
@@ -100,6 +101,9 @@ module _ {a : List ℕ} {k : Counters} {c : Cursor} (s : Stands a k c) where
           in-part = λ _. step-part a (k .used) (k .reports) c (s .far) (s .follows) e;
         }
 
+    pub begun-on : 0 < c′ .first
+    begun-on = step-part a (k .used) (k .reports) c (s .far) (s .follows) e .begun
+
     -- only the report left behind is no longer ahead
     pub ahead-on : (n : ℕ) → c .number < n → ahead a k c n ≡ ahead a k c′ n
     ahead-on n h =
@@ -112,10 +116,16 @@ module _ {a : List ℕ} {k : Counters} {c : Cursor} (s : Stands a k c) where
         let y : ahead a k c′ n ≡ eqb m n || holds (v .0) n = ahead-is a k c′ (v .0) (v .1) n ∙ ap (λ (x : ℕ). eqb x n || holds (v .0) n) (t .number) in
         x ∙ sym y
 
--- a cursor on its way to a report
-pub record Passing (a : List ℕ) (k : Counters) (c₀ : Cursor) (number : ℕ) (c : Cursor) : Type 0 where
-  pub stands : Stands a k c
-  pub same : (n : ℕ) → number ≤ n → ahead a k c₀ n ≡ ahead a k c n
+-- ---- a cursor on its way to a report
+
+pub passing-here : {a : List ℕ} {k : Counters} {number : ℕ} {c : Cursor} → Stands a k c → Passing a k c number c
+passing-here s = record { stands = s; same = λ n i. refl }
+
+pub passing-as : {a : List ℕ} {k : Counters} {c₀ c c′ : Cursor} {number : ℕ} → Passing a k c₀ number c → c′ ≡ c → Passing a k c₀ number c′
+passing-as p e = rw e p
+
+pub passing-then : {a : List ℕ} {k : Counters} {c₀ c₁ c : Cursor} {number : ℕ} → Passing a k c₀ number c₁ → Passing a k c₁ number c → Passing a k c₀ number c
+passing-then p q = record { stands = q .stands; same = λ n i. p .same n i ∙ q .same n i }
 
 module _ {a : List ℕ} {k : Counters} {c₀ : Cursor} {number : ℕ} {c : Cursor} (p : Passing a k c₀ number c) where
   pub passing-on : {m f : ℕ} {c′ : Cursor} → c .number < number → stepAt a (k .used) (k .reports) c ≡ step.Posting m f c′ → Passing a k c₀ number c′
@@ -123,26 +133,116 @@ module _ {a : List ℕ} {k : Counters} {c₀ : Cursor} {number : ℕ} {c : Curso
 
   -- it is there, or the chain ends before
   pub arrived : number ≤ c .number → Sought a k c₀ number c
-  arrived h = record { stands = p .stands; same = p .same; none-left = λ l. absurd (omega arith) }
+  arrived h = record { passing = p; none-left = λ l. absurd (omega arith) }
 
   pub stopped : stepAt a (k .used) (k .reports) c ≡ step.End → Sought a k c₀ number c
-  stopped e = record {
-    stands = p .stands;
-    same = p .same;
-    none-left = λ l n i. ahead-end (p .stands) e n ∙ ne-eqb (c .number) n (λ q. omega arith);
-  }
+  stopped e = record { passing = p; none-left = λ l n i. ahead-end (p .stands) e n ∙ ne-eqb (c .number) n (λ q. omega arith) }
 
 -- several postings of a part
-pub passing-within : {a : List ℕ} {k : Counters} {c₀ c c′ : Cursor} {number j : ℕ} → Passing a k c₀ number c → Within a (k .reports) number c j c′ → Passing a k c₀ number c′
+passing-within : {a : List ℕ} {k : Counters} {c₀ c c′ : Cursor} {number j : ℕ} → Passing a k c₀ number c → Within a (k .reports) number c j c′ → Passing a k c₀ number c′
 passing-within p here = p
 passing-within {a} {k} p (on w l e r) = passing-on (passing-within p w) l (step-here a (k .used) (k .reports) _ e ∙ r)
 
--- a cursor on its way with a number of at least `low`
-abbrev pub Later : List ℕ → Counters → Cursor → ℕ → ℕ → Cursor → Type 0
-Later a k c₀ number low c = Passing a k c₀ number c × (low ≤ c .number)
+-- what is passed of the block's part
+pub passing-part : {a : List ℕ} {k : Counters} {c₀ c : Cursor} {number : ℕ} → Passing a k c₀ number c → 0 < c .first → Passing a k c₀ number (passedTo a (k .reports) c number)
+passing-part {number = number} p h = passing-within p (passed-to (p .stands .in-part h) number .1)
 
-pub later-as : {a : List ℕ} {k : Counters} {c₀ c c′ : Cursor} {number low : ℕ} → Later a k c₀ number low c → c′ ≡ c → Later a k c₀ number low c′
-later-as l e = rw e l
+pub part-forward : {a : List ℕ} {k : Counters} {c : Cursor} (number : ℕ) → Stands a k c → 0 < c .first → c .number ≤ passedTo a (k .reports) c number .number
+part-forward number s h = within-number (passed-to (s .in-part h) number .1)
+
+-- ---- the next block
+
+-- the next block begins with report n, and going there from c leaves the same reports from n on
+pub record Begins (a : List ℕ) (k : Counters) (c : Cursor) (n f : ℕ) (c′ : Cursor) : Type 0 where
+  pub next : nextBlock a (k .used) (k .reports) c ≡ step.Posting n f c′
+  pub ascends : c .number < n
+  pub number : c′ .number ≡ n
+  pub begun : 0 < c′ .first
+  pub passing : Passing a k c n c′
+
+-- with some posting
+abbrev Begun : List ℕ → Counters → Cursor → Type 0
+Begun a k c = (n f : ℕ) × (c′ : Cursor) × Begins a k c n f c′
+
+module _ {a : List ℕ} {k : Counters} where
+  -- from the end of the block at hand it is one step
+  begins-next : {c c′ : Cursor} {n f : ℕ} → Stands a k c → stepAt a (k .used) (k .reports) c ≡ nextBlock a (k .used) (k .reports) c
+      → nextBlock a (k .used) (k .reports) c ≡ step.Posting n f c′ → Begins a k c n f c′
+  begins-next {c} s e q =
+      let t = step-follows a (k .used) (k .reports) c (e ∙ q) in
+      record {
+        next = q;
+        ascends = t .ascends;
+        number = t .number;
+        begun = begun-on s (e ∙ q);
+        passing = record { stands = stands-on s (e ∙ q); same = λ m h. ahead-on s (e ∙ q) m (omega (arith, t .ascends)) };
+      }
+
+  -- from a posting before, one more is left behind
+  begins-before : {c c′ : Cursor} {at m n f f′ : ℕ} → Stands a k c → stepAt a (k .used) (k .reports) c ≡ step.Posting m f′ (movedTo c at m)
+      → Begins a k (movedTo c at m) n f c′ → Begins a k c n f c′
+  begins-before {c} {at = at} {m = m} s e b =
+      let t = step-follows a (k .used) (k .reports) c e in
+      record {
+        next = next-earlier a (k .used) (k .reports) c at (omega (arith, t .ascends)) (b .next);
+        ascends = omega (arith, t .ascends, b .ascends);
+        number = b .number;
+        begun = b .begun;
+        passing = record { stands = b .passing .stands; same = λ i h. ahead-on s e i (omega (arith, t .ascends, b .ascends)) ∙ b .passing .same i h };
+      }
+
+  begun-before : {c : Cursor} {at m f′ : ℕ} → Stands a k c → stepAt a (k .used) (k .reports) c ≡ step.Posting m f′ (movedTo c at m) → Begun a k (movedTo c at m) → Begun a k c
+  begun-before s e (n, f, c′, b) = (n, f, c′, begins-before s e b)
+
+  -- by so many steps at most
+  begun-in : (fuel : ℕ) (c : Cursor) → k .reports - c .number < fuel → Stands a k c → 0 < c .first → (c .block ≡ c .tail → ⊥) → Begun a k c
+  begun-in zero c l s h t = absurd (omega arith)
+  begun-in (suc fuel) c l s h t = go (exhausted a c) refl (begun-in fuel)
+    where
+      over : stepAt a (k .used) (k .reports) c ≡ nextBlock a (k .used) (k .reports) c → (x : Step) → nextBlock a (k .used) (k .reports) c ≡ x → Begun a k c
+      over e (step.Posting n f c′) q = (n, f, c′, begins-next s e q)
+      over e step.End q = absurd (next-more a (k .used) (k .reports) c q)
+      over e step.Damaged q = absurd (stands-undamaged s (e ∙ q))
+
+      on-from : exhausted a c ≡ false → ((d : Cursor) → k .reports - d .number < fuel → Stands a k d → 0 < d .first → (d .block ≡ d .tail → ⊥) → Begun a k d)
+          → (x : Step) → readAt a (k .reports) c (c .number) ≡ x → Begun a k c
+      on-from q ih (step.Posting m f′ d) r =
+          let v = read-moved a (k .reports) c m f′ d h r in
+          let e : stepAt a (k .used) (k .reports) c ≡ step.Posting m f′ (movedTo c (v .0) m) = step-here a (k .used) (k .reports) c q ∙ r ∙ ap (step.Posting m f′) (v .1) in
+          let u = step-follows a (k .used) (k .reports) c e in
+          begun-before s e (ih (movedTo c (v .0) m) (omega (arith, u .ascends, u .within)) (stands-on s e) h t)
+      on-from q ih step.End r = absurd (read-more a (k .reports) c (c .number) r)
+      on-from q ih step.Damaged r = absurd (stands-undamaged s (step-here a (k .used) (k .reports) c q ∙ r))
+
+      go : (x : Bool) → exhausted a c ≡ x
+          → ((d : Cursor) → k .reports - d .number < fuel → Stands a k d → 0 < d .first → (d .block ≡ d .tail → ⊥) → Begun a k d) → Begun a k c
+      go true q ih = over (step-next a (k .used) (k .reports) c q (λ z. omega arith) t) (nextBlock a (k .used) (k .reports) c) refl
+      go false q ih = on-from q ih (readAt a (k .reports) c (c .number)) refl
+
+  -- every block of a sound chain but the tail has a next one, and a cursor behind the block's first posting finds it from wherever it stands
+  module _ {c : Cursor} (s : Stands a k c) (h : 0 < c .first) (t : c .block ≡ c .tail → ⊥) where
+    begun : Begun a k c
+    begun = begun-in (suc (k .reports - c .number)) c (omega arith) s h t
+
+    pub begins : {n f : ℕ} {c′ : Cursor} → nextBlock a (k .used) (k .reports) c ≡ step.Posting n f c′ → Begins a k c n f c′
+    begins e = go begun e
+      where
+        go : {n f : ℕ} {c′ : Cursor} → Begun a k c → nextBlock a (k .used) (k .reports) c ≡ step.Posting n f c′ → Begins a k c n f c′
+        go {n} {f} {c′} (m, g, d, b) e =
+            let p : m ≡ n = cc (b .next) in
+            let q : g ≡ f = cc (b .next) in
+            let r : d ≡ c′ = cc (b .next) in
+            rw (← p, ← q, ← r) b
+
+    pub begins-undamaged : nextBlock a (k .used) (k .reports) c ≡ step.Damaged → ⊥
+    begins-undamaged e = let z : _≡_ {A = ℕ} 0 1 = cc (begun .3 .next) in omega arith
+
+pub begins-over : {a : List ℕ} {k : Counters} {c c′ d : Cursor} {number n m f g : ℕ} → Begins a k c n f c′ → number < n → nextBlock a (k .used) (k .reports) c ≡ step.Posting m g d → number < m
+begins-over {n = n} {m = m} b h e = let z : n ≡ m = cc (b .next) in omega arith
+
+-- a block is left behind whose next one begins with a report up to the number
+pub passing-block : {a : List ℕ} {k : Counters} {c₀ c c′ : Cursor} {number n f : ℕ} → Passing a k c₀ number c → Begins a k c n f c′ → n ≤ number → Passing a k c₀ number c′
+passing-block p b h = record { stands = b .passing .stands; same = λ m i. p .same m i ∙ b .passing .same m (omega arith) }
 
 -- ---- the chain of a head
 

@@ -13,7 +13,7 @@ use Rattle.blocks.specs.Prescribed.{Posting}
 use Rattle.chains.specs.declared.Cursor.{Cursor}
 use Rattle.chains.specs.declared.Step.the-variants as step
 use Rattle.chains.specs.Parts.{InPart}
-use Rattle.chains.specs.Chains.{Reading, exhausted, readAt, run, atHead, isWhole, chainOf, Follows}
+use Rattle.chains.specs.Chains.{Reading, partEnd, exhausted, readAt, nextBlock, run, atHead, isWhole, chainOf, Follows}
 use Rattle.lookup.specs.declared.Found.{Found}
 use Rattle.lookup.specs.declared.Found.the-variants as found
 use Rattle.counters.specs.declared.Counters.{Counters}
@@ -53,6 +53,11 @@ pub data Fills (a : List ℕ) (reports start : ℕ) (c₀ : Cursor) (numbers₀ 
       → exhausted a c ≡ false → readAt a reports c (c .number) ≡ step.Posting m f c′ → start ≤ m → n < length numbers → n < length counts
       → Fills a reports start c₀ numbers₀ counts₀ n₀ c′ (set numbers n m) (set counts n f) (n + 1)
 
+-- and they are filled as far as they can be: where both have room and the part is not at its end, no posting can be read
+pub record FillsOut (a : List ℕ) (reports start : ℕ) (c₀ : Cursor) (numbers₀ counts₀ : List ℕ) (n₀ : ℕ) (c : Cursor) (numbers counts : List ℕ) (n : ℕ) : Type 0 where
+  pub fills : Fills a reports start c₀ numbers₀ counts₀ n₀ c numbers counts n
+  pub stops : n < length numbers → n < length counts → c .at < partEnd c (c .block) → readAt a reports c (c .number) ≡ step.Damaged
+
 -- ---- all terms
 
 abbrev pub listedAs : Bool → ℕ → ListAnswer
@@ -77,10 +82,22 @@ pub record Stands (a : List ℕ) (k : Counters) (c : Cursor) : Type 0 where
 unfoldable pub ahead : List ℕ → Counters → Cursor → ℕ → Bool
 ahead a k c n = eqb (c .number) n || holds (postingsIn (left a k c)) n
 
--- cursor r is c moved forward: it has the same reports from `number` on, and none of them where it stopped before `number`
-pub record Sought (a : List ℕ) (k : Counters) (c : Cursor) (number : ℕ) (r : Cursor) : Type 0 where
+-- cursor r is c moved forward: it has the same reports from `number` on
+pub record Passing (a : List ℕ) (k : Counters) (c : Cursor) (number : ℕ) (r : Cursor) : Type 0 where
   pub stands : Stands a k r
   pub same : (n : ℕ) → number ≤ n → ahead a k c n ≡ ahead a k r n
+
+-- by whole blocks, as far as they can be passed: it stopped behind a posting of the tail, or of a block behind which the next one begins with a
+-- number over `number`
+pub record Skipped (a : List ℕ) (k : Counters) (c : Cursor) (number : ℕ) (r : Cursor) : Type 0 where
+  pub passing : Passing a k c number r
+  pub forward : c .number ≤ r .number
+  pub begun : 0 < r .first
+  pub last : {n f : ℕ} {r′ : Cursor} → (r .block ≡ r .tail → ⊥) → nextBlock a (k .used) (k .reports) r ≡ step.Posting n f r′ → number < n
+
+-- to the first report from `number` on: it has none of them where it stopped before `number`
+pub record Sought (a : List ℕ) (k : Counters) (c : Cursor) (number : ℕ) (r : Cursor) : Type 0 where
+  pub passing : Passing a k c number r
   pub none-left : r .number < number → (n : ℕ) → number ≤ n → ahead a k r n ≡ false
 
 -- the reports of a head's chain

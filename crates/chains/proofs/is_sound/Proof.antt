@@ -1,26 +1,29 @@
--- `chains::is_sound` meets its contract: what is left to read, judged by the postings counted so far, stays the answer in every turn.
+-- `chains::is_sound` meets its contract: each turn reads a block, and what is left to read, judged by the postings counted so far, stays the answer.
 -- Assumes nothing.
-use Rattle.chains.proofs.is_sound.Statement.{statement}
-use Rattle.chains.proofs.is_sound.Tie as tie
-use Rattle.chains.proofs.Counting.{Counted, start, more, passed, ended, miscounted, broken}
-use Rattle.chains.proofs.Parts.{step-part, within-number}
-use Prim.Native.Nat.{ℕ, _+_, _-_, _<_}
-use native.Mathlib.Omega.{arith}
 use borrow.Author.Needs.{needs}
+use Prim.Native.Nat.{_+_, _≤_, _<_}
+use native.Mathlib.Omega.{arith}
 use mathlib.Core.Path.{_≡_, sym, ap, _∙_}
 use denote.Ref.{now}
+use mathlib.Core.Bool.{true, _||_}
+use lib.Dec.{leb, eqb}
+use lib.ListN.{length, getD}
+use borrow.Author.Tests.{eq-eqb, ne-eqb, not-true, not-false}
+use Rattle.chains.specs.declared.Cursor.{Cursor}
+use Rattle.chains.proofs.Steps.{part-end-le}
 use Rattle.blocks.specs.declared.Head.{Head}
 use Rattle.blocks.specs.Fields.{place, headOf}
-use Rattle.chains.specs.declared.Step.{Step}
-use Rattle.chains.specs.declared.Step.the-variants as step
-use Rattle.chains.specs.Chains.{stepAt, badHead, isWhole}
-use Rattle.chains.proofs.Laws.{step-follows, chain-bad}
+use Rattle.chains.specs.Chains.{partEnd, badHead, isWhole}
+use Rattle.chains.proofs.Laws.{chain-bad}
+use Rattle.chains.proofs.Counting.{before, Entering, start, not-begun, Read, block-read, tail-ended, tail-broken, part-broken, none-left, unlinked, next-entering}
+use Rattle.chains.proofs.is_sound.Statement.{statement}
+use Rattle.chains.proofs.is_sound.Tie as tie
 
 abbrev Inv-loop : tie.InvT-loop
-Inv-loop arena used reports h d c₀ n₀ c n = Counted arena used reports h d c n
+Inv-loop arena used reports h d b₀ at₀ base₀ last₀ n₀ left₀ b at base last n left = Entering arena used reports h d (before d b at last left) base n
 
 abbrev μ-loop : tie.MeasureT-loop
-μ-loop arena used reports h d c₀ n₀ c n = reports - c .number
+μ-loop arena used reports h d b₀ at₀ base₀ last₀ n₀ left₀ b at base last n left = left
 
 -- the length of the term is a byte
 short : (c : tie.After-head-of Inv-loop μ-loop) → c .head-of .result .length < 256
@@ -36,11 +39,6 @@ judged c =
     let s = c .before .before .before .args in
     sym (c .is-bad-head .ensures ∙ ap (λ (d : Head). badHead d (s .used) (s .h)) (c .before .head-of .ensures))
 
--- the step that the loop takes
-stepped : (c : tie.After-advance Inv-loop μ-loop) (x : Step) → c .advance .result ≡ x
-    → let s = c .before .before .before .before .before .before .before .args in stepAt (now (s .arena)) (s .used) (s .reports) (c .before .loop .c) ≡ x
-stepped c x e = sym (c .advance .ensures) ∙ e
-
 head-of-requires : tie.Need-head-of-requires Inv-loop μ-loop
 head-of-requires c κs = omega arith
 
@@ -51,82 +49,113 @@ returns : tie.Need-returns Inv-loop μ-loop
 unfolding isWhole
 returns c = sym (ap isWhole (chain-bad _ _ _ _ (judged (c .before) ∙ c .if1 .taken)))
 
-at-head-requires : tie.Need-at-head-requires Inv-loop μ-loop
-at-head-requires c κs = (c .before .before .before .before .pre .1, short (c .before .before))
+add-at : tie.Need-add-at Inv-loop μ-loop
+add-at c = omega (arith, short (c .before .before .before))
+
+sub-left : tie.Need-sub-left Inv-loop μ-loop
+sub-left c = omega arith
 
 loop-holds : tie.Need-loop-holds Inv-loop μ-loop
 loop-holds c =
     let s = c .before .before .before .before .before in
-    rw (c .at-head .ensures, c .before .before .before .head-of .ensures) (start _ _ _ _ (s .pre .0) (s .pre .1) (judged (c .before .before) ∙ c .before .if1 .left))
+    rw (c .before .before .before .head-of .ensures) (start _ _ _ _ (s .pre .0) (s .pre .1) (judged (c .before .before) ∙ c .before .if1 .left))
 
-advance-requires : tie.Need-advance-requires Inv-loop μ-loop
-advance-requires c κs = (c .loop .inv .follows, c .loop .inv .far)
+end-in-requires : tie.Need-end-in-requires Inv-loop μ-loop
+end-in-requires c κs = search needs
 
-enum-told : tie.Need-enum-told Inv-loop μ-loop
-enum-told c = search needs
+-- a turn
+module _ (l : tie.At-loop Inv-loop μ-loop) where
+  abbrev s : tie.Start Inv-loop μ-loop
+  s = l .before .before .before .before .before .before
+
+  abbrev d : Head
+  d = l .before .before .before .before .head-of .result
+
+  abbrev k : Cursor
+  k = before d (l .loop .b) (l .loop .at) (l .loop .last) (l .loop .left)
+
+  inside : place (l .loop .b) + 64 ≤ length (now (s .args .arena))
+  inside = let f = l .loop .inv .follows in omega (arith, f .inside, f .in-use)
+
+is-end : (c : tie.After-end-in Inv-loop μ-loop) → c .end-in .result ≡ partEnd (k (c .before)) (c .before .loop .b)
+unfolding partEnd
+is-end c = c .end-in .ensures
+
+read-part-requires : tie.Need-read-part-requires Inv-loop μ-loop
+read-part-requires c κs =
+    let l = c .before in
+    let i = l .loop .inv in
+    (omega (arith, inside l, is-end c, part-end-le (k l) (l .loop .b) (i .follows .end-in)), i .low)
 
 returns-2 : tie.Need-returns-2 Inv-loop μ-loop
-returns-2 c = sym (broken (c .before .before .before .loop .inv) (stepped (c .before .before) step.Damaged (c .enum-told .given .1)))
+returns-2 c = let q = c .before .before in sym (not-begun (q .before .before .loop .inv) (is-end (q .before)) (q .read-part .ensures) (c .if2 .taken))
 
-enum-told-2 : tie.Need-enum-told-2 Inv-loop μ-loop
-enum-told-2 c = search needs
+-- a block was read
+module _ (c : tie.Else2 Inv-loop μ-loop) where
+  abbrev q : tie.After-read-part Inv-loop μ-loop
+  q = c .before .before
 
-returns-3 : tie.Need-returns-3 Inv-loop μ-loop
-returns-3 c = sym (ended (c .before .before .before .before .before .before .before .loop .inv) (stepped (c .before .before .before .before .before .before) step.End (c .before .before .before .before .enum-told2 .given .1)) (c .before .before .if2 .taken))
+  abbrev l : tie.At-loop Inv-loop μ-loop
+  l = q .before .before
 
-returns-4 : tie.Need-returns-4 Inv-loop μ-loop
-returns-4 c = sym (miscounted (c .before .before .before .before .before .loop .inv) (stepped (c .before .before .before .before) step.End (c .before .before .enum-told2 .given .1)) (c .if2 .left))
-
-enum-known-next : tie.Need-enum-known-next Inv-loop μ-loop
-enum-known-next c = search needs
-
--- the first posting of a block
-module _ (c : tie.After-next Inv-loop μ-loop) where
-  abbrev t : tie.After-advance Inv-loop μ-loop
-  t = c .before .before
-
-  abbrev r : tie.Start Inv-loop μ-loop
-  r = t .before .before .before .before .before .before .before
-
-  met : stepAt (now (r .args .arena)) (r .args .used) (r .args .reports) (t .before .loop .c) ≡ step.Posting (c .next .given .0 .0) (c .next .given .0 .1 .0) (c .next .given .0 .1 .1 .0)
-  met = stepped t _ (c .next .given .1)
-
-pass-part-requires : tie.Need-pass-part-requires Inv-loop μ-loop
-pass-part-requires c κs =
-    let n = c .before in
-    let i = t n .before .loop .inv in
-    step-part _ _ _ _ (i .far) (i .follows) (met n)
-
--- and those behind it
-module _ (p : tie.After-pass-part Inv-loop μ-loop) where
-  abbrev n : tie.After-next Inv-loop μ-loop
-  n = p .before .before
-
-  abbrev q : tie.At-loop Inv-loop μ-loop
-  q = t n .before
-
-  abbrev k : ℕ
-  k = q .loop .n + (1 + p .pass-part .result .postings)
-
-  counted : Counted (now (r n .args .arena)) (r n .args .used) (r n .args .reports) (r n .args .h) (q .before .before .before .before .head-of .result) (p .pass-part .result .place) k
-  counted =
-      let e : k ≡ q .loop .n + 1 + p .pass-part .result .postings = omega arith in
-      rw e (passed (more (q .loop .inv) (met n)) (p .pass-part .ensures))
-
-  further : q .loop .c .number < p .pass-part .result .place .number
-  further = omega (arith, within-number (p .pass-part .ensures), step-follows _ _ _ _ (met n) .number, step-follows _ _ _ _ (met n) .ascends)
+  read : Read (now (s l .args .arena)) (s l .args .used) (s l .args .reports) (s l .args .h) (d l) (l .loop .b) (l .loop .left) (l .loop .n) (q .read-part .result)
+  read = block-read (l .loop .inv) (is-end (q .before)) (q .read-part .ensures) (c .if2 .left)
 
 add-n : tie.Need-add-n Inv-loop μ-loop
-add-n c = let w = counted (c .before .before) in omega (arith, w .few, w .within)
+add-n c = let w = read (c .before .before) .counted in omega (arith, w .few, w .within)
 
 add-n-2 : tie.Need-add-n-2 Inv-loop μ-loop
-add-n-2 c = let w = counted (c .before .before) in omega (arith, w .few, w .within)
+add-n-2 c = let w = read (c .before .before) .counted in omega (arith, w .few, w .within)
+
+returns-3 : tie.Need-returns-3 Inv-loop μ-loop
+returns-3 c = let t = c .before .before .before in sym (tail-broken (read (t .before .before .before .before)) (t .if3 .taken) (c .if4 .taken))
+
+returns-4 : tie.Need-returns-4 Inv-loop μ-loop
+returns-4 c =
+    let e = c .before .before .before in
+    let t = e .before .before .before in
+    sym (tail-ended (read (t .before .before .before .before)) (t .if3 .taken) (e .if4 .left) ∙ rw (eq-eqb _ _ (c .before .if5 .taken)))
+
+returns-5 : tie.Need-returns-5 Inv-loop μ-loop
+returns-5 c =
+    let e = c .before .before in
+    let t = e .before .before .before in
+    sym (tail-ended (read (t .before .before .before .before)) (t .if3 .taken) (e .if4 .left) ∙ rw (ne-eqb _ _ (c .if5 .left)))
+
+returns-6 : tie.Need-returns-6 Inv-loop μ-loop
+returns-6 c = let t = c .before in sym (none-left (read (t .before .before .before .before)) (t .if3 .left) (c .if6 .taken))
+
+ends-at-requires : tie.Need-ends-at-requires Inv-loop μ-loop
+ends-at-requires c κs = inside (l (c .before .before .before .before .before))
+
+returns-7 : tie.Need-returns-7 Inv-loop μ-loop
+returns-7 c =
+    let t = c .before .before .before in
+    sym (part-broken (read (t .before .before .before .before)) (t .if3 .left) (sym (c .before .ends-at .ensures) ∙ not-true _ (c .if7 .taken)))
+
+link-of-requires : tie.Need-link-of-requires Inv-loop μ-loop
+link-of-requires c κs = inside (l (c .before .before .before .before .before .before .before))
+
+-- behind it comes another
+ends : (c : tie.Else7 Inv-loop μ-loop) → let q = c .before .before .before .before .before .before .before .before .before in
+    leb 64 (q .read-part .result .rest .at) || eqb (getD (now (s (q .before .before) .args .arena)) (place (q .before .before .loop .b) + q .read-part .result .rest .at) 0) 0 ≡ true
+ends c = sym (c .before .ends-at .ensures) ∙ not-false _ (c .if7 .left)
+
+returns-8 : tie.Need-returns-8 Inv-loop μ-loop
+returns-8 c =
+    let t = c .before .before .before .before .before in
+    sym (unlinked (read (t .before .before .before .before)) (t .if3 .left) (ends (c .before .before)) (c .before .link-of .ensures) (c .if8 .taken))
+
+sub-left-2 : tie.Need-sub-left-2 Inv-loop μ-loop
+sub-left-2 c = omega (arith, c .before .before .before .before .if6 .left)
 
 loop-less : tie.Need-loop-less Inv-loop μ-loop
-loop-less c = omega (arith, further (c .before .before), counted (c .before .before) .within)
+loop-less c = omega (arith, c .before .before .before .before .if6 .left)
 
 loop-again : tie.Need-loop-again Inv-loop μ-loop
-loop-again c = counted (c .before .before)
+loop-again c =
+    let t = c .before .before .before .before .before in
+    next-entering (read (t .before .before .before .before)) (t .if3 .left) (ends (c .before .before)) (c .before .link-of .ensures) (c .before .before .before .before .if6 .left) (c .if8 .left)
 
 pub is-sound-spec : {M : Type 1} → statement M
 is-sound-spec =
@@ -137,17 +166,22 @@ is-sound-spec =
     head-of-requires
     is-bad-head-requires
     returns
-    at-head-requires
+    add-at
+    sub-left
     loop-holds
-    advance-requires
-    enum-told
+    end-in-requires
+    read-part-requires
     returns-2
-    enum-told-2
-    returns-3
-    returns-4
-    enum-known-next
-    pass-part-requires
     add-n
     add-n-2
+    returns-3
+    returns-4
+    returns-5
+    returns-6
+    ends-at-requires
+    returns-7
+    link-of-requires
+    returns-8
+    sub-left-2
     loop-less
     loop-again)
