@@ -22,7 +22,7 @@ use Rattle.chains.specs.declared.Passed.{Passed}
 use Rattle.chains.specs.declared.Step.the-variants as step
 use Rattle.chains.specs.Chains.{partEnd, exhausted, given, readAt, entered, nextBlock, stepAt, Follows}
 use Rattle.chains.specs.Parts.{behind, passed, movedTo, passedTo, InPart}
-use Rattle.chains.proofs.Steps.{part-end-le, part-end-ge, not-exhausted, part-within, past, given-none, given-low, given-over, given-at, read-gave, next-none, next-out, next-at, step-empty, step-end, step-next, step-here}
+use Rattle.chains.proofs.Steps.{part-end-le, part-end-ge, not-exhausted, part-within, given-none, given-over, given-at, given-is, read-gave, next-none, next-out, next-at, step-empty, step-end, step-next, step-here}
 use Rattle.chains.proofs.Laws.{step-follows}
 use Rattle.chains.proofs.Passing.{Goes, Stopped, at-end, arrived, no-posting, over, pass-keeps}
 
@@ -151,18 +151,12 @@ read-behind a reports c base n f c′ h e = go (decoded (partOf a (c .block) (c 
     go : (x : Decoded) → decoded (partOf a (c .block) (c .at) (partEnd c (c .block))) ≡ x → given reports c base x ≡ step.Posting n f c′ → Behind c′
     go code.Rejected q e = let z : _≡_ {A = ℕ} 0 1 = cc (given-none reports c base) in absurd (omega arith)
     go (code.Posting g f′ l) q e =
-        by-lt (c .number) (base + g)
-        (λ u.
-        by-lt reports (base + g)
-        (λ v. let z : _≡_ {A = ℕ} 0 1 = cc (given-over reports c base g f′ l v) in absurd (omega arith))
-        (λ v.
-        let r : past c (base + g) l ≡ c′ = cc (given-at reports c base g f′ l u v) in
-        rw (← r)
+        let v = given-is reports c base g f′ l n f c′ e in
+        rw (← v .past-it)
         (record {
           at-in = omega (arith, part-within a (c .block) (c .at) (partEnd c (c .block)) g f′ l q);
-          begun = by-eq (c .first) 0 (λ z. rw (eq-eqb (c .first) 0 z) (omega arith)) (λ z. rw (ne-eqb (c .first) 0 z) (omega arith));
-        })))
-        (λ u. let z : _≡_ {A = ℕ} 0 1 = cc (given-low reports c base g f′ l u) in absurd (omega arith))
+          begun = by-eq (c .first) 0 (λ z. rw (eq-eqb (c .first) 0 z) (omega (arith, v .ascends))) (λ z. rw (ne-eqb (c .first) 0 z) (omega arith));
+        })
 
 -- behind a posting that was read a cursor stands in its part
 pub read-in-part : (a : List ℕ) (used reports : ℕ) (c : Cursor) (base n f : ℕ) (c′ : Cursor) → Follows a used c → c .at ≤ partEnd c (c .block)

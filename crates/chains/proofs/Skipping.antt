@@ -1,13 +1,12 @@
 -- Going on to the next block: which posting it begins with does not depend on how far the block at hand is read.
 -- Assumes nothing.
 use Prim.Native.Nat.{ℕ, _+_, _≤_, _<_}
-use mathlib.Core.Path.{_≡_, refl, sym, ap, _∙_}
+use mathlib.Core.Path.{_≡_, sym, _∙_}
 use mathlib.Core.Bool.{Bool, true, false, cond, _&&_, _||_}
 use mathlib.Core.List.{List}
 use native.Mathlib.Omega.{arith}
 use lib.Dec.{ltb, leb, eqb}
 use borrow.Author.Tests.{ne-eqb}
-use Rattle.basics.proofs.Cases.{by-lt}
 use Rattle.postings.specs.Coding.{decoded}
 use Rattle.postings.specs.declared.Decoded.{Decoded}
 use Rattle.postings.specs.declared.Decoded.the-variants as code
@@ -17,23 +16,7 @@ use Rattle.chains.specs.declared.Step.{Step}
 use Rattle.chains.specs.declared.Step.the-variants as step
 use Rattle.chains.specs.Chains.{partEnd, given, readAt, entered, nextBlock}
 use Rattle.chains.specs.Parts.{movedTo}
-use Rattle.chains.proofs.Steps.{past, given-none, given-low, given-over, given-at}
-
--- a posting's number and the cursor past it
-record Given (reports : ℕ) (c : Cursor) (base g l n : ℕ) (c′ : Cursor) : Type 0 where
-  number : base + g ≡ n
-  past-it : past c (base + g) l ≡ c′
-  ascends : c .number < base + g
-  within : base + g ≤ reports
-
-given-is : (reports : ℕ) (c : Cursor) (base g f l n f′ : ℕ) (c′ : Cursor) → given reports c base (code.Posting g f l) ≡ step.Posting n f′ c′ → Given reports c base g l n c′
-given-is reports c base g f l n f′ c′ e =
-    by-lt (c .number) (base + g)
-    (λ h.
-    by-lt reports (base + g)
-    (λ k. let z : _≡_ {A = ℕ} 0 1 = cc (given-over reports c base g f l k) in absurd (omega arith))
-    (λ k. record { number = cc (given-at reports c base g f l h k); past-it = cc (given-at reports c base g f l h k); ascends = h; within = k }))
-    (λ h. let z : _≡_ {A = ℕ} 0 1 = cc (given-low reports c base g f l h) in absurd (omega arith))
+use Rattle.chains.proofs.Steps.{given-none, given-at, given-is}
 
 -- a posting behind the block's first moves only the offset and the number
 pub read-moved : (a : List ℕ) (reports : ℕ) (c : Cursor) (n f : ℕ) (c′ : Cursor) → 0 < c .first → readAt a reports c (c .number) ≡ step.Posting n f c′

@@ -83,6 +83,23 @@ module _ (reports : ℕ) (c : Cursor) (base : ℕ) where
     unfolding given
     given-at h k = rw (lt-ltb (c .number) (base + g) h, le-leb (base + g) reports k)
 
+-- what a posting's code says that was given for n: its number, the cursor past it, and that numbers ascend up to reports
+pub record Given (reports : ℕ) (c : Cursor) (base g l n : ℕ) (c′ : Cursor) : Type 0 where
+  pub number : base + g ≡ n
+  pub past-it : past c (base + g) l ≡ c′
+  pub ascends : c .number < base + g
+  pub within : base + g ≤ reports
+
+pub given-is : (reports : ℕ) (c : Cursor) (base g f l n f′ : ℕ) (c′ : Cursor) → given reports c base (code.Posting g f l) ≡ step.Posting n f′ c′
+    → Given reports c base g l n c′
+given-is reports c base g f l n f′ c′ e =
+    by-lt (c .number) (base + g)
+    (λ h.
+    by-lt reports (base + g)
+    (λ k. let z : _≡_ {A = ℕ} 0 1 = cc (given-over reports c base g f l k) in absurd (omega arith))
+    (λ k. record { number = cc (given-at reports c base g f l h k); past-it = cc (given-at reports c base g f l h k); ascends = h; within = k }))
+    (λ h. let z : _≡_ {A = ℕ} 0 1 = cc (given-low reports c base g f l h) in absurd (omega arith))
+
 -- what a posting says that a cursor gave: the cursor past it is in block b of the same chain, and numbers ascend up to reports
 pub record Gave (reports : ℕ) (c : Cursor) (b n : ℕ) (c′ : Cursor) : Type 0 where
   pub tail : c′ .tail ≡ c .tail
@@ -96,22 +113,16 @@ given-gave : (reports : ℕ) (c : Cursor) (base : ℕ) (x : Decoded) (n f : ℕ)
     → Gave reports c (c .block) n c′
 given-gave reports c base code.Rejected n f c′ e = let z : _≡_ {A = ℕ} 0 1 = cc (given-none reports c base) in absurd (omega arith)
 given-gave reports c base (code.Posting g f′ l) n f c′ e =
-    by-lt (c .number) (base + g)
-    (λ h.
-    by-lt reports (base + g)
-    (λ k. let z : _≡_ {A = ℕ} 0 1 = cc (given-over reports c base g f′ l k) in absurd (omega arith))
-    (λ k.
-    let p : base + g ≡ n = cc (given-at reports c base g f′ l h k) in
-    let q : past c (base + g) l ≡ c′ = cc (given-at reports c base g f′ l h k) in
+    let v = given-is reports c base g f′ l n f c′ e in
+    let q = v .past-it in
     record {
       tail = sym (ap (λ (x : Cursor). x .tail) q);
       end = sym (ap (λ (x : Cursor). x .end) q);
       block = sym (ap (λ (x : Cursor). x .block) q);
-      number = sym (ap (λ (x : Cursor). x .number) q) ∙ p;
-      ascends = omega arith;
-      within = omega arith;
-    }))
-    (λ h. let z : _≡_ {A = ℕ} 0 1 = cc (given-low reports c base g f′ l h) in absurd (omega arith))
+      number = sym (ap (λ (x : Cursor). x .number) q) ∙ v .number;
+      ascends = omega (arith, v .ascends, v .number);
+      within = omega (arith, v .within, v .number);
+    }
 
 pub read-gave : (a : List ℕ) (reports : ℕ) (c : Cursor) (base n f : ℕ) (c′ : Cursor) → readAt a reports c base ≡ step.Posting n f c′
     → Gave reports c (c .block) n c′

@@ -10,7 +10,12 @@ use lib.ListN.{length}
 use borrow.Author.Tests.{lt-ltb, le-ltb}
 use Rattle.basics.specs.Lists.{any}
 use Rattle.basics.proofs.Cases.{by-lt}
-use Rattle.frames.specs.Frames.{pastField, Field, fieldsUpTo, fields, passesEnd}
+use Rattle.frames.specs.Frames.{countBytes, pastField, Field, fieldsUpTo, fields, passesEnd}
+
+-- a line has at least five bytes
+pub past-five : (f : List ℕ) (at : ℕ) → at + 5 ≤ pastField countBytes f at
+unfolding pastField
+past-five f at = omega arith
 
 module _ (tail : ℕ) (f : List ℕ) where
   -- a field has at least its length byte

@@ -53,28 +53,27 @@ sound-query k most f z =
     let r₅ = first-zero (5 if badTerm f (terms f)) [] (omega arith) (r₄ .1) in
     record { right = r₄ .0; good = r₅ .0 }
 
--- where a check hands out a cursor, nothing was refused and reading starts at the first line or term
-lines-case : (n : ℕ) (c : Cursor) → reportAs n ≡ report.Lines c → (n ≡ 0) × (c .at ≡ firstLine)
-lines-case zero c e =
-    let start : Cursor = record { at = firstLine } in
-    let q : start ≡ c = cc in
-    (refl, sym (ap (λ (x : Cursor). x .at) q))
-lines-case (suc n) c e = let z : _≡_ {A = ℕ} 0 1 = cc in absurd (omega arith)
+-- where a check refuses nothing, it tells the number of lines, or the start and where the first term stands
+lines-case : (n : ℕ) (f : List ℕ) (k : ℕ) → reportAs n f ≡ report.Lines k → (n ≡ 0) × (k ≡ length (lines f))
+lines-case zero f k e =
+    let q : length (lines f) ≡ k = cc in
+    (refl, sym q)
+lines-case (suc n) f k e = let z : _≡_ {A = ℕ} 0 1 = cc in absurd (omega arith)
 
-pub lines-sound : (f : List ℕ) (c : Cursor) → reportFrame f ≡ report.Lines c → (reportRefusal f ≡ 0) × (c .at ≡ firstLine)
+pub lines-sound : (f : List ℕ) (k : ℕ) → reportFrame f ≡ report.Lines k → (reportRefusal f ≡ 0) × (k ≡ length (lines f))
 unfolding reportFrame
-lines-sound f c e = lines-case (reportRefusal f) c e
+lines-sound f k e = lines-case (reportRefusal f) f k e
 
-refused-case : (n r : ℕ) → reportAs n ≡ report.Refused r → (n ≡ r) × (0 < r)
-refused-case zero r e = let z : _≡_ {A = ℕ} 0 1 = cc in absurd (omega arith)
-refused-case (suc n) r e =
+refused-case : (n : ℕ) (f : List ℕ) (r : ℕ) → reportAs n f ≡ report.Refused r → (n ≡ r) × (0 < r)
+refused-case zero f r e = let z : _≡_ {A = ℕ} 0 1 = cc in absurd (omega arith)
+refused-case (suc n) f r e =
     let q : suc n ≡ r = cc in
     (q, omega arith)
 
 -- and where it hands out a refusal, that is the frame's
 pub report-refused : (f : List ℕ) (r : ℕ) → reportFrame f ≡ report.Refused r → (reportRefusal f ≡ r) × (0 < r)
 unfolding reportFrame
-report-refused f r e = refused-case (reportRefusal f) r e
+report-refused f r e = refused-case (reportRefusal f) f r e
 
 terms-case : (n : ℕ) (f : List ℕ) (start : ℕ) (c : Cursor) → queryAs n f ≡ query.Terms start c → (n ≡ 0) × (start ≡ queryStart f) × (c .at ≡ firstTerm)
 terms-case zero f start c e =
@@ -130,12 +129,11 @@ query-some most f e =
       ltb-false most (length (terms f)) (or-right (eqb (length (terms f)) 0) _ b),
     )
 
--- so whole fields that are terms stand from the cursor on
-pub lines-ready : (f : List ℕ) (c : Cursor) → reportFrame f ≡ report.Lines c → (passesEnd countBytes f (c .at) ≡ false) × (badTerm f (fields countBytes f (c .at)) ≡ false)
-lines-ready f c e =
-    let s = lines-sound f c e in
-    let r : SoundReport f = sound-report f (s .0) in
-    rw (s .1) (r .uncut, r .good)
+-- so whole fields that are terms stand from there on
+pub lines-ready : (f : List ℕ) (k : ℕ) → reportFrame f ≡ report.Lines k → (passesEnd countBytes f firstLine ≡ false) × (badTerm f (lines f) ≡ false)
+lines-ready f k e =
+    let r : SoundReport f = sound-report f (lines-sound f k e .0) in
+    (r .uncut, r .good)
 
 pub terms-ready : (k most : ℕ) (f : List ℕ) (start : ℕ) (c : Cursor) → queryFrame k most f ≡ query.Terms start c
     → (passesEnd 0 f (c .at) ≡ false) × (badTerm f (fields 0 f (c .at)) ≡ false)
@@ -179,9 +177,12 @@ module _ {tail : ℕ} {f : List ℕ} {at : ℕ} (s : Sound tail f at) (h : at < 
   pub sound-term : length (termAt f at) ≤ maxTerm
   sound-term = term-length (termAt f at) (good-here tail f at h (s .good)) .1
 
-  -- and as many folded
+  -- and as many folded: 1 to 36
   pub sound-name : length (foldedAt f at) ≤ maxTerm
   sound-name = rw (length-folded (termAt f at)) sound-term
+
+  pub sound-some : 0 < length (foldedAt f at)
+  sound-some = rw (length-folded (termAt f at)) (omega (arith, term-length (termAt f at) (good-here tail f at h (s .good)) .0))
 
   -- and so on from the next
   pub sound-on : Sound tail f (pastField tail f at)

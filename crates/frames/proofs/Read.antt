@@ -8,8 +8,8 @@ use native.Mathlib.Nat.{add-zero}
 use native.Mathlib.Numerals.{add-one}
 use native.Mathlib.Omega.{arith}
 use lib.Dec.{eqb}
-use lib.ListN.{length, getD, set, take, drop, length-set, length-take, length-drop, take-append-drop}
-use lib.Seq.{drop-drop, take-take, take-suc-set, getD-drop}
+use lib.ListN.{length, getD, set, take, drop, length-set, length-take, length-drop, length-append, length-map, take-append-drop}
+use lib.Seq.{drop-drop, take-take, take-suc-set, getD-drop, length-take-le}
 use Rattle.basics.proofs.Lists.{or-false, or-assoc}
 use Rattle.basics.proofs.Parts.{drop-take}
 use Rattle.basics.specs.Lists.{any}
@@ -17,7 +17,7 @@ use Rattle.terms.specs.Terms.{folded, fnv1a, isTerm}
 use Rattle.terms.proofs.Laws.{length-folded, folded-take, folded-drop}
 use Rattle.frames.specs.Frames.{maxBody, countBytes, firstLine, termAt, countAt, pastField, Field, fields, lines, passesEnd, badTerm, zeroCount, foldedAt}
 use Rattle.frames.specs.Read.{Folds, maxLines, hashesOf, Hashed}
-use Rattle.frames.proofs.Fields.{fields-end, fields-more, passes-end, passes-here, passes-on}
+use Rattle.frames.proofs.Fields.{past-five, fields-end, fields-more, passes-end, passes-here, passes-on}
 
 -- ---- the bytes folded
 
@@ -59,6 +59,11 @@ module _ (f : List ℕ) (at : ℕ) where
     pub hash-on : Hashed f (pastField countBytes f at) (n + 1) hashes
     hash-on = record { rest = p .rest; is = sym (drop-drop 1 n hashes) ∙ ap (drop 1) line-first }
 
+-- there is a hash for each line from an offset on
+pub hashes-enough : (f : List ℕ) (at : ℕ) {hashes : List ℕ} → Hashed f at 0 hashes → length (fields countBytes f at) ≤ length hashes
+unfolding hashesOf
+hashes-enough f at p = omega (arith, simp (length-append, length-map) at (ap length (p .is)))
+
 -- ---- from line to line
 
 -- what is known at an offset where a line may start, with n lines read, a bad term among them or not, a count of 0 or not
@@ -68,10 +73,11 @@ pub record Reading (f hashes : List ℕ) (at n : ℕ) (bad zero : Bool) : Type 0
   pub zeros : zeroCount f (lines f) ≡ zero || zeroCount f (fields countBytes f at)
   pub hashed : hashesOf f (lines f) ≡ take n hashes ++ hashesOf f (fields countBytes f at)
   pub room : firstLine + 5 * n ≤ at
+  pub few : n ≤ maxLines
   pub enough : maxLines ≤ length hashes
 
 pub reading-none : (f hashes : List ℕ) → maxLines ≤ length hashes → Reading f hashes firstLine 0 false false
-reading-none f hashes h = record { uncut = refl; bads = refl; zeros = refl; hashed = refl; room = omega arith; enough = h }
+reading-none f hashes h = record { uncut = refl; bads = refl; zeros = refl; hashed = refl; room = omega arith; few = omega arith; enough = h }
 
 -- a line's term and count, and those behind it
 module _ (f : List ℕ) (at : ℕ) where
@@ -82,11 +88,6 @@ module _ (f : List ℕ) (at : ℕ) where
   zero-step : at < length f → zeroCount f (fields countBytes f at) ≡ eqb (countAt f at) 0 || zeroCount f (fields countBytes f (pastField countBytes f at))
   unfolding zeroCount any
   zero-step h = rw (fields-more countBytes f at h)
-
-  -- a line has at least five bytes
-  past-five : at + 5 ≤ pastField countBytes f at
-  unfolding pastField
-  past-five = omega arith
 
 module _ {f hashes : List ℕ} {at n : ℕ} {bad zero : Bool} (r : Reading f hashes at n bad zero) where
   -- at the frame's end all is known
@@ -102,10 +103,16 @@ module _ {f hashes : List ℕ} {at n : ℕ} {bad zero : Bool} (r : Reading f has
     unfolding zeroCount any
     reading-zero = r .zeros ∙ rw (fields-end countBytes f at h) (or-false zero)
 
+    all-hashes : hashesOf f (lines f) ≡ take n hashes
+    all-hashes = r .hashed ∙ ap (λ (hs : List ℕ). take n hashes ++ hs) (hashes-end f at h) ∙ append-nil (take n hashes)
+
     pub reading-hashed : Hashed f firstLine 0 hashes
-    reading-hashed =
-        let e : hashesOf f (lines f) ≡ take n hashes = r .hashed ∙ ap (λ (hs : List ℕ). take n hashes ++ hs) (hashes-end f at h) ∙ append-nil (take n hashes) in
-        record { rest = drop n hashes; is = sym (take-append-drop n hashes) ∙ ap (λ (hs : List ℕ). hs ++ drop n hashes) (sym e) }
+    reading-hashed = record { rest = drop n hashes; is = sym (take-append-drop n hashes) ∙ ap (λ (hs : List ℕ). hs ++ drop n hashes) (sym all-hashes) }
+
+    pub reading-count : n ≡ length (lines f)
+    unfolding hashesOf
+    reading-count =
+        sym (length-take-le n hashes (omega (arith, r .few, r .enough))) ∙ sym (ap length all-hashes) ∙ length-map (lines f) (λ at. fnv1a (foldedAt f at))
 
   module _ (h : at < length f) where
     -- a line that passes the end decides
@@ -128,5 +135,6 @@ module _ {f hashes : List ℕ} {at n : ℕ} {bad zero : Bool} (r : Reading f has
           zeros = r .zeros ∙ ap (λ (y : Bool). zero || y) (zero-step f at h) ∙ or-assoc zero (eqb (countAt f at) 0) (zeroCount f (fields countBytes f past)) ∙ rw z;
           hashed = r .hashed ∙ ap (λ (hs : List ℕ). take n hashes ++ hs) (hashes-more f at h) ∙ sym (rw (t, e) (append-assoc (take n hashes) (fnv1a (foldedAt f at) ∷ []) (hashesOf f (fields countBytes f past))));
           room = omega (arith, r .room, past-five f at);
+          few = omega (arith, r .room);
           enough = rw length-set (r .enough);
         })

@@ -3,7 +3,7 @@
 use mathlib.Core.Path.{_≡_, refl, ap, _∙_}
 use mathlib.Core.Bool.{Bool, true, false, _||_}
 use mathlib.Core.List.{List, [], _∷_, map}
-use Prim.Native.Nat.{ℕ, zero, suc, _%_, _≤_, _<_}
+use Prim.Native.Nat.{ℕ, zero, suc, _+_, _-_, _*_, _%_, _≤_, _<_}
 use native.Mathlib.Omega.{arith}
 use lib.ListN.{length, getD, set, replicate, length-set, length-replicate}
 use lib.Seq.{getD-set-same, getD-set-other}
@@ -24,13 +24,21 @@ use Rattle.frames.specs.Frames.{
   foldedAt,
   repeatedTerm,
 }
-use Rattle.frames.specs.Repeats.{chainUpTo, chain, slots, Chained}
-use Rattle.frames.proofs.Fields.{past-more, fields-end, fields-more, field-here, whole-on}
+use Rattle.frames.specs.Repeats.{slotOf, chainUpTo, chain, slots, Chained}
+use Rattle.frames.proofs.Fields.{past-five, fields-end, fields-more, field-here, whole-on}
 
 -- ---- following a chain
 
 abbrev Falls : List ℕ → Type 0
-Falls earlier = (at : ℕ) → 0 < at → getD earlier at 0 < at
+Falls earlier = (slot : ℕ) → getD earlier slot 0 ≤ 5 * slot - 1
+
+-- the offset that one leads to
+abbrev before : List ℕ → ℕ → ℕ
+before earlier at = getD earlier (slotOf at) 0
+
+-- it lies before the one that leads to it
+pub before-less : (earlier : List ℕ) → Falls earlier → (at : ℕ) → 0 < at → before earlier at < at
+before-less earlier falls at h = omega (arith, falls (slotOf at))
 
 -- nothing follows 0
 pub chain-none : (earlier : List ℕ) → chain earlier 0 ≡ []
@@ -46,26 +54,27 @@ module _ (earlier : List ℕ) (falls : Falls earlier) where
   agree (suc k) zero at h h′ = rw (eq-eqb at 0 (omega arith))
   agree (suc k) (suc j) at h h′ =
       by-eq at 0 (λ e. rw (eq-eqb at 0 e))
-      (λ n. let d = falls at (omega arith) in rw (ne-eqb at 0 n, agree k j (getD earlier at 0) (omega arith) (omega arith)))
+      (λ n. let d = before-less earlier falls at (omega arith) in rw (ne-eqb at 0 n, agree k j (before earlier at) (omega arith) (omega arith)))
 
   -- an offset, and the chain from the one before it on
-  pub chain-more : (at : ℕ) → 0 < at → chain earlier at ≡ at ∷ chain earlier (getD earlier at 0)
+  pub chain-more : (at : ℕ) → 0 < at → chain earlier at ≡ at ∷ chain earlier (before earlier at)
   unfolding chain chainUpTo
   chain-more at h =
-      let d = falls at h in
-      let o = getD earlier at 0 in
+      let d = before-less earlier falls at h in
+      let o = before earlier at in
       agree at (suc at) at (omega arith) (omega arith) ∙ rw (ne-eqb at 0 (λ e. omega arith), agree at o o (omega arith) (omega arith))
 
-  -- a chain goes down, so a store further up does not change it
-  below : (k x v at : ℕ) → at < x → chainUpTo k (set earlier x v) at ≡ chainUpTo k earlier at
+  -- a chain goes down, so a store for a line further up does not change it
+  below : (k x v at : ℕ) → (0 < at → at + 5 ≤ x) → chainUpTo k (set earlier (slotOf x) v) at ≡ chainUpTo k earlier at
   unfolding chainUpTo
   below zero x v at h = refl
   below (suc k) x v at h =
       by-eq at 0 (λ e. rw (eq-eqb at 0 e))
-      (λ n. let d = falls at (omega arith) in
-      rw (ne-eqb at 0 n, getD-set-other earlier x at v 0 (λ e. omega arith), below k x v (getD earlier at 0) (omega arith)))
+      (λ n. let d = before-less earlier falls at (omega arith) in
+      let l : at + 5 ≤ x = h (omega arith) in
+      rw (ne-eqb at 0 n, getD-set-other earlier (slotOf x) (slotOf at) v 0 (λ e. omega arith), below k x v (before earlier at) (λ p. omega arith)))
 
-  pub chain-set : (x v at : ℕ) → at < x → chain (set earlier x v) at ≡ chain earlier at
+  pub chain-set : (x v at : ℕ) → (0 < at → at + 5 ≤ x) → chain (set earlier (slotOf x) v) at ≡ chain earlier at
   unfolding chain
   chain-set x v at h = below at x v at h
 
@@ -79,7 +88,7 @@ module _ (f t earlier : List ℕ) where
   unfolding any
   has-none = rw (chain-none earlier)
 
-  pub has-more : Falls earlier → (at : ℕ) → 0 < at → hasTerm f t (chain earlier at) ≡ same t (foldedAt f at) || hasTerm f t (chain earlier (getD earlier at 0))
+  pub has-more : Falls earlier → (at : ℕ) → 0 < at → hasTerm f t (chain earlier at) ≡ same t (foldedAt f at) || hasTerm f t (chain earlier (before earlier at))
   unfolding any
   has-more falls at h = rw (chain-more earlier falls at h)
 
@@ -119,11 +128,12 @@ pub record Passed (f last earlier : List ℕ) (at : ℕ) : Type 0 where
   pub left : repeatedTerm f (lines f) ≡ repeatsAfter seen (map (foldedAt f) (fields countBytes f at))
   pub whole : passesEnd countBytes f at ≡ false
   pub chained : (b : ℕ) → Chained f earlier (getD last b 0)
-  pub behind : (b : ℕ) → getD last b 0 < at
+  pub behind : (b : ℕ) → 0 < getD last b 0 → getD last b 0 + 5 ≤ at
+  pub some : 0 < at
   pub held : (t : List ℕ) → hasTerm f t (chain earlier (getD last (bucket t) 0)) ≡ any (same t) seen
 
 -- at the first line all chains are empty
-pub passed-none : (f : List ℕ) (n m : ℕ) → n ≡ buckets → m ≡ slots → length f ≤ slots → passesEnd countBytes f firstLine ≡ false → Passed f (replicate n 0) (replicate m 0) firstLine
+pub passed-none : (f : List ℕ) (n m : ℕ) → n ≡ buckets → m ≡ slots → length f ≤ 5 * slots → passesEnd countBytes f firstLine ≡ false → Passed f (replicate n 0) (replicate m 0) firstLine
 unfolding repeatedTerm any
 passed-none f n m en em h w = record {
   last-length = rw length-replicate en;
@@ -133,11 +143,12 @@ passed-none f n m en em h w = record {
   whole = w;
   chained = λ b. record {
     room = h;
-    falls = λ at l. rw (nulls m at) l;
-    whole = λ at l. absurd (omega (arith, nulls m at));
+    falls = λ slot. rw (nulls m slot) (omega arith);
+    whole = λ slot l. absurd (omega (arith, nulls m slot));
     start = λ l. absurd (omega (arith, nulls n b));
   };
-  behind = λ b. rw (nulls n b) (omega arith);
+  behind = λ b l. absurd (omega (arith, nulls n b));
+  some = omega arith;
   held = λ t. rw (nulls n (bucket t)) (has-none f t (replicate m 0));
 }
 
@@ -163,7 +174,7 @@ module _ {f last earlier : List ℕ} {at : ℕ} (p : Passed f last earlier at) w
     last′ = set last (bucket term) at
 
     abbrev earlier′ : List ℕ
-    earlier′ = set earlier at latest
+    earlier′ = set earlier (slotOf at) latest
 
     -- the line repeats one before it, or it is one more that later lines may repeat
     repeats-here : repeatedTerm f (lines f) ≡ hasTerm f term (chain earlier latest) || repeatsAfter (term ∷ p .seen) (map (foldedAt f) (fields countBytes f (pastField countBytes f at)))
@@ -174,13 +185,15 @@ module _ {f last earlier : List ℕ} {at : ℕ} (p : Passed f last earlier at) w
     passed-found e = repeats-here ∙ rw e
 
     falls′ : Falls earlier′
-    falls′ = set-each (λ o x. 0 < o → x < o) earlier at latest (λ l. p .behind (bucket term)) (p .chained 0 .falls)
+    falls′ =
+        set-each (λ slot x. x ≤ 5 * slot - 1) earlier (slotOf at) latest
+        (by-eq latest 0 (λ e. omega arith) (λ n. omega (arith, p .behind (bucket term) (omega arith)))) (p .chained 0 .falls)
 
     chained-from : (x : ℕ) → (0 < x → Field countBytes f x) → Chained f earlier′ x
     chained-from x l = record {
       room = p .chained 0 .room;
       falls = falls′;
-      whole = set-each (λ o x. 0 < x → Field countBytes f x) earlier at latest (p .chained (bucket term) .start) (p .chained 0 .whole);
+      whole = set-each (λ slot x. 0 < x → Field countBytes f x) earlier (slotOf at) latest (p .chained (bucket term) .start) (p .chained 0 .whole);
       start = l;
     }
 
@@ -193,9 +206,8 @@ module _ {f last earlier : List ℕ} {at : ℕ} (p : Passed f last earlier at) w
     unfolding any
     held-own t e =
         let l : bucket term < length last = omega (arith, p .last-length, bucket-small term) in
-        let r : at < length earlier = omega (arith, p .earlier-length, p .chained 0 .room) in
-        let s : 0 < at = omega (arith, p .behind 0) in
-        rw (e, getD-set-same last (bucket term) at 0 l, has-more f t earlier′ falls′ at s, getD-set-same earlier at latest 0 r, chain-as (bucket term), ← e, p .held t)
+        let r : slotOf at < length earlier = omega (arith, p .earlier-length, p .chained 0 .room) in
+        rw (e, getD-set-same last (bucket term) at 0 l, has-more f t earlier′ falls′ at (p .some), getD-set-same earlier (slotOf at) latest 0 r, chain-as (bucket term), ← e, p .held t)
 
     -- a term of another bucket is not the line's, since equal terms have equal hashes
     held-other : (t : List ℕ) → (bucket t ≡ bucket term → ⊥) → hasTerm f t (chain earlier′ (getD last′ (bucket t) 0)) ≡ any (same t) (term ∷ p .seen)
@@ -212,6 +224,7 @@ module _ {f last earlier : List ℕ} {at : ℕ} (p : Passed f last earlier at) w
       left = repeats-here ∙ rw e;
       whole = whole-on countBytes f at (p .whole) h;
       chained = set-each (λ b x. Chained f earlier′ x) last (bucket term) at (chained-from at (λ l. passed-line)) (λ b. chained-from (getD last b 0) (p .chained b .start));
-      behind = set-each (λ b x. x < pastField countBytes f at) last (bucket term) at (past-more countBytes f at) (λ b. omega (arith, p .behind b, past-more countBytes f at));
+      behind = set-each (λ b x. 0 < x → x + 5 ≤ pastField countBytes f at) last (bucket term) at (λ l. past-five f at) (λ b l. omega (arith, p .behind b l, past-five f at));
+      some = omega (arith, past-five f at);
       held = λ t. by-eq (bucket t) (bucket term) (held-own t) (held-other t);
     }

@@ -5,6 +5,7 @@ use mathlib.Core.Bool.{true, false}
 use mathlib.Core.List.{List, [], _∷_, _++_}
 use Prim.Native.Nat.{ℕ, zero, suc, _<_}
 use native.Mathlib.Omega.{arith}
+use lib.ListN.{length}
 use Rattle.basics.specs.Lists.{all}
 use Rattle.frames.specs.declared.Report.the-variants as report
 use Rattle.frames.specs.Refusals.{Row, _if_, firstOf}
@@ -12,9 +13,14 @@ use Rattle.frames.specs.Frames.{countBytes, firstLine, lines, passesEnd,
 use Rattle.frames.proofs.Heads.{head-numbered}
 use Rattle.frames.proofs.Refusals.{Numbered, numbered, first-empty, first-holds, first-passes, first-some, first-none, first-zero, both-zero}
 
-as-refused : (n : ℕ) → 0 < n → reportAs n ≡ report.Refused n
-as-refused zero h = absurd (omega arith)
-as-refused (suc n) h = refl
+as-refused : (n : ℕ) (f : List ℕ) → 0 < n → reportAs n f ≡ report.Refused n
+as-refused zero f h = absurd (omega arith)
+as-refused (suc n) f h = refl
+
+-- what the check answers, once the refusal is known
+answered : (f : List ℕ) {n : ℕ} → reportRefusal f ≡ n → reportFrame f ≡ reportAs n f
+unfolding reportFrame
+answered f e = ap (λ (n : ℕ). reportAs n f) e
 
 module _ (f : List ℕ) where
   row4 : Row
@@ -70,8 +76,8 @@ module _ (f : List ℕ) where
   -- ---- all rows of a report
 
   pub report-head : 0 < firstOf (headRows 1 f) → reportFrame f ≡ report.Refused (firstOf (headRows 1 f))
-  unfolding reportFrame reportRefusal reportRows
-  report-head h = ap reportAs (first-some (headRows 1 f) _ h) ∙ as-refused (firstOf (headRows 1 f)) h
+  unfolding reportRefusal reportRows
+  report-head h = answered f (first-some (headRows 1 f) _ h) ∙ as-refused (firstOf (headRows 1 f)) f h
 
   module _ (z : firstOf (headRows 1 f) ≡ 0) where
     -- where the head is right, the lines decide
@@ -80,20 +86,17 @@ module _ (f : List ℕ) where
     lines-judged = first-none _ (head-numbered 1 f) z
 
     pub report-fields : 0 < firstOf (fieldRows f) → reportFrame f ≡ report.Refused (firstOf (fieldRows f))
-    unfolding reportFrame
-    report-fields h = ap reportAs (lines-judged ∙ first-some (fieldRows f) _ h) ∙ as-refused (firstOf (fieldRows f)) h
+    report-fields h = answered f (lines-judged ∙ first-some (fieldRows f) _ h) ∙ as-refused (firstOf (fieldRows f)) f h
 
     module _ (n : firstOf (fieldRows f) ≡ 0) where
       after-fields : reportRefusal f ≡ firstOf (row7 ∷ [])
       after-fields = lines-judged ∙ first-none _ field-numbered n
 
       pub report-repeats : repeatedTerm f (lines f) ≡ true → reportFrame f ≡ report.Refused 7
-      unfolding reportFrame
-      report-repeats e = ap reportAs (after-fields ∙ first-holds row7 _ e)
+      report-repeats e = answered f (after-fields ∙ first-holds row7 _ e)
 
-      pub report-sound : repeatedTerm f (lines f) ≡ false → reportFrame f ≡ report.Lines (record { at = firstLine })
-      unfolding reportFrame
-      report-sound e = ap reportAs (after-fields ∙ first-passes row7 _ e ∙ first-empty)
+      pub report-sound : repeatedTerm f (lines f) ≡ false → reportFrame f ≡ report.Lines (length (lines f))
+      report-sound e = answered f (after-fields ∙ first-passes row7 _ e ∙ first-empty)
 
   -- where no row holds
   pub none-holds : reportRefusal f ≡ 0

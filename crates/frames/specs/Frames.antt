@@ -158,14 +158,14 @@ queryStart f = wordAt f 4
 unfoldable pub queryTerms : List ℕ → List (List ℕ)
 queryTerms f = map (foldedAt f) (terms f)
 
--- ---- what the checks answer: the refusal, or where reading starts
+-- ---- what the checks answer: the refusal, or how many lines there are, or where a query's terms start
 
-abbrev pub reportAs : ℕ → Report
-reportAs zero = report.Lines (record { at = firstLine })
-reportAs (suc n) = report.Refused (suc n)
+abbrev pub reportAs : ℕ → List ℕ → Report
+reportAs zero f = report.Lines (length (lines f))
+reportAs (suc n) f = report.Refused (suc n)
 
 unfoldable pub reportFrame : List ℕ → Report
-reportFrame f = reportAs (reportRefusal f)
+reportFrame f = reportAs (reportRefusal f) f
 
 abbrev pub queryAs : ℕ → List ℕ → Query
 queryAs zero f = query.Terms (queryStart f) (record { at = firstTerm })

@@ -1,10 +1,10 @@
 -- What reading a report's frame leaves to those who look its lines up.
 use mathlib.Core.Path.{_≡_}
-use Prim.Native.Nat.{ℕ}
+use Prim.Native.Nat.{ℕ, _≤_}
 use mathlib.Core.List.{List, _++_, map}
 use lib.ListN.{length, take, drop}
 use Rattle.terms.specs.Terms.{folded, fnv1a}
-use Rattle.frames.specs.Frames.{countBytes, firstLine, fields, foldedAt}
+use Rattle.frames.specs.Frames.{countBytes, firstLine, fields, lines, foldedAt}
 
 -- `names` starts with the frame's bytes folded, all of them, so that a folded term stands where the term does
 abbrev pub Folds : List ℕ → List ℕ → Type 0
@@ -26,3 +26,4 @@ pub record Hashed (f : List ℕ) (at n : ℕ) (hashes : List ℕ) : Type 0 where
 pub record Read (f names hashes : List ℕ) : Type 0 where
   pub folds : Folds f names
   pub hashed : Hashed f firstLine 0 hashes
+  pub few : length (lines f) ≤ maxLines

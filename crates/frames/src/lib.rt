@@ -35,10 +35,16 @@ pub struct Cursor {
     pub at: usize,
 }
 
-// A report's frame: refused, or where its first line stands.
+// A report's frame: refused, or how many lines it has.
 pub enum Report {
     Refused(u8),
-    Lines(Cursor),
+    Lines(usize),
+}
+
+// Refusals 4 to 6, or 0 and how many lines there are.
+pub struct LinesRead {
+    pub refusal: u8,
+    pub count: usize,
 }
 
 // A query's frame: refused, or the number from which to list and where its first term stands.
@@ -170,9 +176,9 @@ fn bad_term(frame: &[u8], from: usize, tail: usize) -> bool
 }
 
 // Refusals 4 to 6 of a report in one pass; 0 for none. Stores the hash of each line's folded term.
-fn read_lines(frame: &[u8], names: &[u8], hashes: &mut [u32]) -> u8
+fn read_lines(frame: &[u8], names: &[u8], hashes: &mut [u32]) -> LinesRead
     requires { ⌜ (length (now frame) ≤ maxBody + 3) × Folds (now frame) (now names) × (maxLines ≤ length (now hashes)) ⌝ }
-    ensures { λ r. ⌜ (r ≡ firstOf (fieldRows (now (frame .entry)))) × (r ≡ 0 → Hashed (now (frame .entry)) firstLine 0 (now (hashes .exit))) ⌝ }
+    ensures { λ r. ⌜ (r .refusal ≡ firstOf (fieldRows (now (frame .entry)))) × (r .refusal ≡ 0 → (r .count ≡ length (lines (now (frame .entry)))) × (r .count ≤ maxLines) × Hashed (now (frame .entry)) firstLine 0 (now (hashes .exit))) ⌝ }
 {
     let mut c = Cursor { at: 4 };
     let mut n: usize = 0;
@@ -181,7 +187,10 @@ fn read_lines(frame: &[u8], names: &[u8], hashes: &mut [u32]) -> u8
     while c.at < frame.len() {
         let next = c.past(frame, 4);
         if frame.len() < next.at {
-            return 4;
+            return LinesRead {
+                refusal: 4,
+                count: n,
+            };
         }
         let line = terms::judge(c.name(frame, names));
         hashes[n] = line.hash;
@@ -195,13 +204,19 @@ fn read_lines(frame: &[u8], names: &[u8], hashes: &mut [u32]) -> u8
         c = next;
     }
     if bad {
-        return 5;
+        return LinesRead {
+            refusal: 5,
+            count: n,
+        };
     }
-    if zero { 6 } else { 0 }
+    LinesRead {
+        refusal: if zero { 6 } else { 0 },
+        count: n,
+    }
 }
 
 // Whether a line of the chain from `last` on has the folded term of the line at c.
-fn in_chain(frame: &[u8], names: &[u8], earlier: &[u16; 4100], last: u16, c: Cursor) -> bool
+fn in_chain(frame: &[u8], names: &[u8], earlier: &[u16; 820], last: u16, c: Cursor) -> bool
     requires { ⌜ Folds (now frame) (now names) × Chained (now frame) (now earlier) last × Field countBytes (now frame) (c .at) ⌝ }
     ensures { λ r. ⌜ r ≡ any (λ at. same (foldedAt (now (frame .entry)) (c .at)) (foldedAt (now (frame .entry)) at)) (chain (now (earlier .entry)) last) ⌝ }
 {
@@ -211,7 +226,7 @@ fn in_chain(frame: &[u8], names: &[u8], earlier: &[u16; 4100], last: u16, c: Cur
         if basics::same_bytes(c.name(frame, names), line.name(frame, names)) {
             return true;
         }
-        at = earlier[at] as usize;
+        at = earlier[at / 5] as usize;
     }
     false
 }
@@ -222,7 +237,7 @@ fn repeated_term(frame: &[u8], names: &[u8], hashes: &[u32]) -> bool
     ensures { λ r. ⌜ r ≡ repeatedTerm (now (frame .entry)) (lines (now (frame .entry))) ⌝ }
 {
     let mut last = [0u16; 256];
-    let mut earlier = [0u16; 4100];
+    let mut earlier = [0u16; 820];
     let mut c = Cursor { at: 4 };
     let mut n: usize = 0;
     while c.at < frame.len() {
@@ -232,7 +247,7 @@ fn repeated_term(frame: &[u8], names: &[u8], hashes: &[u32]) -> bool
         if in_chain(frame, names, &earlier, latest, c) {
             return true;
         }
-        earlier[at] = latest;
+        earlier[at / 5] = latest;
         last[bucket] = at as u16;
         n += 1;
         c = c.past(frame, 4);
@@ -252,14 +267,14 @@ pub fn read_report(frame: &[u8], names: &mut [u8], hashes: &mut [u32]) -> Report
         return Report::Refused(head);
     }
     terms::fold(frame, names);
-    let fields = read_lines(frame, names, hashes);
-    if fields != 0 {
-        return Report::Refused(fields);
+    let read = read_lines(frame, names, hashes);
+    if read.refusal != 0 {
+        return Report::Refused(read.refusal);
     }
     if repeated_term(frame, names, hashes) {
         return Report::Refused(7);
     }
-    Report::Lines(Cursor { at: 4 })
+    Report::Lines(read.count)
 }
 
 // The same for a caller that looks nothing up.

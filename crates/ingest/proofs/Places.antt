@@ -1,6 +1,6 @@
 -- Where a line goes: what its place says of the term's head, or of the slot for a new one.
 -- Assumes nothing.
-use mathlib.Core.Path.{_≡_, refl}
+use mathlib.Core.Path.{_≡_, refl, sym}
 use mathlib.Core.Bool.{Bool, true, false}
 use mathlib.Core.List.{List, map}
 use Prim.Native.Nat.{ℕ, _≤_, _<_}
@@ -24,7 +24,7 @@ use Rattle.counters.specs.Counters.{Memory}
 use Rattle.ingest.specs.declared.Place.{Place}
 use Rattle.ingest.specs.declared.Place.the-variants.{Damaged, New, Stays, Spills}
 use Rattle.ingest.specs.Report.{nextNumber, lineOf, damagedHead, placeAt, placed, placeOf}
-use Rattle.ingest.specs.Needs.{Room}
+use Rattle.ingest.specs.Needs.{Room, Below}
 
 -- ---- a known term's head
 
@@ -109,6 +109,16 @@ module _ (a table : List ℕ) (k : Counters) (w : List ℕ) (f : ℕ) where
   -- of the place that a search leads to
   pub seat : (p : Place) → p ≡ placed a k f (sought a (k .used) table w) → Seat p
   seat p e = rw e (seat-found (sought a (k .used) table w) refl)
+
+-- a head that a search finds is a used block
+pub found-below : (a : List ℕ) (used : ℕ) (table w : List ℕ) {x : Found} → x ≡ sought a used table w → Below used x
+unfolding Below
+found-below a used table w {x} e = go x e
+  where
+    go : (x : Found) → x ≡ sought a used table w → Below used x
+    go (found.At h) q = search-at a used table w h (sym q) .below
+    go (found.Unknown s) q = tt
+    go found.Damaged q = tt
 
 -- ---- the line at an offset of a frame
 

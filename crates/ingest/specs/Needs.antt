@@ -6,6 +6,8 @@ use mathlib.Core.List.{List, [], _∷_}
 use lib.ListN.{length}
 use Rattle.terms.specs.Terms.{maxTerm}
 use Rattle.frames.specs.Refusals.{firstOf}
+use Rattle.lookup.specs.declared.Found.{Found}
+use Rattle.lookup.specs.declared.Found.the-variants as found
 use Rattle.lookup.specs.Lookup.{search}
 use Rattle.blocks.specs.Fields.{maxWord, capacity}
 use Rattle.counters.specs.declared.Counters.{Counters}
@@ -24,6 +26,12 @@ pub record Room (a : List ℕ) (k : Counters) : Type 0 where
 pub record Held (a table : List ℕ) (k : Counters) : Type 0 where
   pub room : Room a k
   pub few : k .terms ≤ maxTerms table
+
+-- a head found is a used block
+unfoldable pub Below : ℕ → Found → Type 0
+Below used (found.At h) = h < used
+Below used (found.Unknown s) = Unit
+Below used found.Damaged = Unit
 
 -- a line that has been judged on its own: its place is the one found, and neither 10, 11 nor 12 holds
 pub record Writable (a table : List ℕ) (k : Counters) (w : List ℕ) (f : ℕ) (p : Place) : Type 0 where

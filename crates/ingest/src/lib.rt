@@ -3,14 +3,14 @@ ghost use mathlib.Core.Path.{_≡_};
 ghost use Prim.Native.Nat.{_+_, _≤_, _<_};
 ghost use lib.ListN.{length};
 ghost use Rattle.terms.specs.Terms.{maxTerm, fnv1a};
-ghost use Rattle.frames.specs.Frames.{maxBody, reportRefusal, reportLines};
+ghost use Rattle.frames.specs.Frames.{maxBody, lines, reportRefusal, reportLines};
 ghost use Rattle.frames.specs.Read.{Read};
 ghost use Rattle.frames.specs.Refusals.{firstOf};
 ghost use Rattle.blocks.specs.Fields.{maxWord};
 ghost use Rattle.lookup.specs.Lookup.{search};
 ghost use Rattle.counters.specs.Counters.{memory};
 ghost use Rattle.ingest.specs.Report.{lineOf, wroteAs, damagedHead, placeAt, placed, planRows, linesPlan, written, writeLines, callRefusal, reportCall, takenOf};
-ghost use Rattle.ingest.specs.Needs.{Room, Held, Writable, withPlace, refusedWith};
+ghost use Rattle.ingest.specs.Needs.{Room, Below, Held, Writable, withPlace, refusedWith};
 use blocks::Head;
 use counters::Counters;
 use frames::Cursor;
@@ -83,15 +83,24 @@ fn place_at(arena: &[u8], k: Counters, count: u32, h: u32) -> Place
     Place::Spills(h)
 }
 
-fn place_of(arena: &[u8], table: &[u32], k: Counters, name: &[u8], hash: u32, count: u32) -> Place
-    requires { ⌜ Room (now arena) k × (length (now name) ≤ maxTerm) × (hash ≡ fnv1a (now name)) ⌝ }
-    ensures { λ r. ⌜ r ≡ placed (now (arena .entry)) k count (search (now (arena .entry)) (k .used) (now (table .entry)) (now (name .entry))) ⌝ }
+// The place of a line, by what the search for its term found.
+fn place_found(arena: &[u8], k: Counters, found: Found, count: u32) -> Place
+    requires { ⌜ Room (now arena) k × Below (k .used) found ⌝ }
+    ensures { λ r. ⌜ r ≡ placed (now (arena .entry)) k count found ⌝ }
 {
-    match lookup::find(arena, k.used, table, name, hash) {
+    match found {
         Found::Damaged => Place::Damaged,
         Found::Unknown(s) => Place::New(s),
         Found::At(h) => place_at(arena, k, count, h),
     }
+}
+
+fn place_of(arena: &[u8], table: &[u32], k: Counters, name: &[u8], hash: u32, count: u32) -> Place
+    requires { ⌜ Room (now arena) k × (length (now name) ≤ maxTerm) × (hash ≡ fnv1a (now name)) ⌝ }
+    ensures { λ r. ⌜ r ≡ placed (now (arena .entry)) k count (search (now (arena .entry)) (k .used) (now (table .entry)) (now (name .entry))) ⌝ }
+{
+    let found = lookup::find(arena, k.used, table, name, hash);
+    place_found(arena, k, found, count)
 }
 
 // ---- what the lines need
@@ -120,6 +129,8 @@ fn with_place(plan: Plan, p: Place) -> Plan
     }
 }
 
+// The places of all lines on the memory as it is. The first slots of all lines, and then the heads that they lead to, are asked for before the
+// first is compared: their loads miss the caches, and so they overlap.
 fn plan_lines(
     arena: &[u8],
     table: &[u32],
@@ -127,10 +138,15 @@ fn plan_lines(
     frame: &[u8],
     names: &[u8],
     hashes: &[u32],
+    count: usize,
 ) -> Plan
-    requires { ⌜ Room (now arena) k × (reportRefusal (now frame) ≡ 0) × Read (now frame) (now names) (now hashes) ⌝ }
+    requires { ⌜ Room (now arena) k × (reportRefusal (now frame) ≡ 0) × Read (now frame) (now names) (now hashes) × (count ≡ length (lines (now frame))) ⌝ }
     ensures { λ r. ⌜ (r ≡ linesPlan (memory (now (arena .entry)) (now (table .entry)) k) (reportLines (now (frame .entry)))) × (r .terms ≤ maxBody) ⌝ }
 {
+    let mut entries = [0u32; 820];
+    let mut lengths = [0u8; 820];
+    lookup::first_entries(table, hashes, count, &mut entries);
+    lookup::first_lengths(arena, k.used, &entries, count, &mut lengths);
     let mut plan = Plan {
         damaged: false,
         terms: 0,
@@ -139,8 +155,16 @@ fn plan_lines(
     let mut c = Cursor { at: 4 };
     let mut n: usize = 0;
     while c.at < frame.len() {
-        let hash = hashes[n];
-        let p = place_of(arena, table, k, c.name(frame, names), hash, c.count(frame));
+        let found = lookup::find_from(
+            arena,
+            k.used,
+            table,
+            c.name(frame, names),
+            hashes[n],
+            entries[n],
+            lengths[n],
+        );
+        let p = place_found(arena, k, found, c.count(frame));
         plan = with_place(plan, p);
         n += 1;
         c = c.past(frame, 4);
@@ -272,8 +296,9 @@ fn judge_report(
     frame: &[u8],
     names: &[u8],
     hashes: &[u32],
+    count: usize,
 ) -> u8
-    requires { ⌜ (reportRefusal (now frame) ≡ 0) × Read (now frame) (now names) (now hashes) ⌝ }
+    requires { ⌜ (reportRefusal (now frame) ≡ 0) × Read (now frame) (now names) (now hashes) × (count ≡ length (lines (now frame))) ⌝ }
     ensures { λ r. ⌜ r ≡ callRefusal (memory (now (arena .entry)) (now (table .entry)) k) (now (frame .entry)) ⌝ }
 {
     if counters::are_wrong(arena, table, k) {
@@ -282,7 +307,7 @@ fn judge_report(
     if k.reports == 4294967295 {
         return 9;
     }
-    let plan = plan_lines(arena, table, k, frame, names, hashes);
+    let plan = plan_lines(arena, table, k, frame, names, hashes, count);
     judge(arena, table, k, plan)
 }
 
@@ -296,8 +321,8 @@ pub fn take_report(arena: &mut [u8], table: &mut [u32], k: Counters, frame: &[u8
     let mut hashes = [0u32; 820];
     match frames::read_report(frame, &mut names, &mut hashes) {
         Report::Refused(n) => refused(n, k),
-        Report::Lines(_) => {
-            let refusal = judge_report(arena, table, k, frame, &names, &hashes);
+        Report::Lines(count) => {
+            let refusal = judge_report(arena, table, k, frame, &names, &hashes, count);
             if refusal != 0 {
                 return refused(refusal, k);
             }

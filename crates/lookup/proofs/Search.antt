@@ -14,7 +14,7 @@ use Rattle.basics.proofs.Cases.{by-lt, by-eq}
 use Rattle.basics.proofs.Lists.{same-eq, eq-same}
 use Rattle.terms.specs.Terms.{fnv1a}
 use Rattle.blocks.specs.Fields.{nameOf}
-use Rattle.lookup.specs.Lookup.{slots, nextSlot, searchFrom, search, enter}
+use Rattle.lookup.specs.Lookup.{slots, nextSlot, searchFrom, search, enter, firstEntry}
 use Rattle.lookup.specs.declared.Found.{Found}
 use Rattle.lookup.specs.declared.Found.the-variants.{At, Unknown, Damaged}
 
@@ -62,6 +62,19 @@ pub record Vacant (t : ℕ) (table : List ℕ) (left s k : ℕ) : Type 0 where
 pub record Stands (a : List ℕ) (used : ℕ) (w : List ℕ) (b : ℕ) : Type 0 where
   pub below : b < used
   pub named : nameOf a b ≡ w
+
+-- ---- the entry where a search begins
+
+module _ (table : List ℕ) (hash : ℕ) where
+  -- without slots it is 0
+  pub first-none : slots table ≡ 0 → firstEntry table hash ≡ 0
+  unfolding firstEntry
+  first-none e = rw (eq-eqb (slots table) 0 e)
+
+  -- with slots it is that of the hash
+  pub first-some : 0 < slots table → firstEntry table hash ≡ getD table (hash % slots table) 0
+  unfolding firstEntry
+  first-some h = rw (ne-eqb (slots table) 0 (λ e. omega arith))
 
 -- ---- a search from a slot on
 
@@ -173,3 +186,15 @@ module _ (a : List ℕ) (used : ℕ) (table w : List ℕ) where
       let v : Vacant (slots table) table (slots table) (fnv1a w % slots table) s
       = from-unknown a used table w (slots table) (fnv1a w % slots table) s (mod-lt (fnv1a w) h) (sym (search-some h) ∙ e) in
       (v .inside, v .empty)
+
+  -- a first entry that leads to a used block with the name ends the search
+  pub search-first : (e : ℕ) → e ≡ firstEntry table (fnv1a w) → 0 < e → e ≤ used → nameOf a (e - 1) ≡ w → search a used table w ≡ At (e - 1)
+  search-first e p low high named =
+      by-eq (slots table) 0
+      (λ n. let z : e ≡ 0 = p ∙ first-none table (fnv1a w) n in absurd (omega arith))
+      (λ n.
+      let some : 0 < slots table = omega arith in
+      let q : getD table (fnv1a w % slots table) 0 ≡ e = sym (p ∙ first-some table (fnv1a w) some) in
+      search-some some
+      ∙ from-some a used table w (slots table) (fnv1a w % slots table) some
+      ∙ rw (q, ne-eqb e 0 (λ x. omega arith), lt-ltb (e - 1) used (omega arith), eq-same (nameOf a (e - 1)) w named))

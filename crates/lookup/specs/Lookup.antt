@@ -1,12 +1,13 @@
 -- Finding a term in the table (document 01, "Memory lent to the index", "Finding a term"; damage at look-up).
-use Prim.Native.Nat.{ℕ, zero, suc, _+_, _-_, _%_, min}
+use Prim.Native.Nat.{ℕ, zero, suc, _+_, _-_, _%_, _<_, min}
+use mathlib.Core.Path.{_≡_}
 use mathlib.Core.List.{List}
-use mathlib.Core.Bool.{cond}
-use lib.Dec.{ltb, eqb}
+use mathlib.Core.Bool.{cond, _&&_}
+use lib.Dec.{ltb, leb, eqb}
 use lib.ListN.{length, getD, set}
 use Rattle.basics.specs.Lists.{same}
 use Rattle.terms.specs.Terms.{fnv1a}
-use Rattle.blocks.specs.Fields.{maxWord, nameOf}
+use Rattle.blocks.specs.Fields.{maxWord, place, nameOf}
 use Rattle.lookup.specs.declared.Found.{Found}
 use Rattle.lookup.specs.declared.Found.the-variants.{At, Unknown, Damaged}
 
@@ -38,3 +39,21 @@ search a used table name =
 -- a new term's head in the empty slot met: block number + 1
 unfoldable pub enter : List ℕ → ℕ → ℕ → List ℕ
 enter table s b = set table s (b + 1)
+
+-- ---- what several searches ask for before any of them compares
+
+-- the entry of the slot where the search for a hash begins; 0 where there is no slot
+unfoldable pub firstEntry : List ℕ → ℕ → ℕ
+firstEntry table hash = cond (eqb (slots table) 0) 0 (getD table (hash % slots table) 0)
+
+-- the length of the term in the head that an entry leads to; 0 where it leads to no used block
+unfoldable pub lengthBehind : List ℕ → ℕ → ℕ → ℕ
+lengthBehind a used e = cond (ltb 0 e && leb e used) (getD a (place (e - 1) + 17) 0) 0
+
+-- the first `count` entries are those of the first `count` hashes
+pub record Entries (table hashes : List ℕ) (count : ℕ) (entries : List ℕ) : Type 0 where
+  pub each : (i : ℕ) → i < count → getD entries i 0 ≡ firstEntry table (getD hashes i 0)
+
+-- the first `count` lengths are those behind the first `count` entries
+pub record Lengths (a : List ℕ) (used : ℕ) (entries : List ℕ) (count : ℕ) (lengths : List ℕ) : Type 0 where
+  pub each : (i : ℕ) → i < count → getD lengths i 0 ≡ lengthBehind a used (getD entries i 0)

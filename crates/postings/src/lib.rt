@@ -216,33 +216,34 @@ pub fn decode_at(s: &[u8], at: usize) -> Decoded
 {
     let b = s[at] as u32;
     let f = b % 4;
-    if b < 128 && 0 < f {
-        return Decoded::Posting {
-            gap: b / 4 + 1,
-            count: f,
-            length: 1,
-        };
-    }
-    if at + 1 < s.len() {
-        let d = s[at + 1] as u32;
-        if 0 < d && d < 128 {
-            if b < 128 {
-                // 4 divides it: the second byte gives the count
-                if 0 < b {
-                    return Decoded::Posting {
-                        gap: b / 4,
-                        count: d + 3,
-                        length: 2,
-                    };
-                }
-            } else {
-                if 0 < f {
-                    return Decoded::Posting {
-                        gap: (b - 128 + 128 * d) / 4 + 1,
-                        count: f,
-                        length: 2,
-                    };
-                }
+    if 0 < f {
+        if b < 128 {
+            return Decoded::Posting {
+                gap: b / 4 + 1,
+                count: f,
+                length: 1,
+            };
+        }
+        if at + 1 < s.len() {
+            let d = s[at + 1] as u32;
+            if 0 < d && d < 128 {
+                return Decoded::Posting {
+                    gap: (b - 128 + 128 * d) / 4 + 1,
+                    count: f,
+                    length: 2,
+                };
+            }
+        }
+    } else {
+        // 4 divides the value: a second one gives the count
+        if 0 < b && b < 128 && at + 1 < s.len() {
+            let d = s[at + 1] as u32;
+            if 0 < d && d < 128 {
+                return Decoded::Posting {
+                    gap: b / 4,
+                    count: d + 3,
+                    length: 2,
+                };
             }
         }
     }

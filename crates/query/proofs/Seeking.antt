@@ -237,6 +237,7 @@ module _ {a : List ℕ} {k : Counters} where
     pub begins-undamaged : nextBlock a (k .used) (k .reports) c ≡ step.Damaged → ⊥
     begins-undamaged e = let z : _≡_ {A = ℕ} 0 1 = cc (begun .3 .next) in omega arith
 
+-- what is read there is that posting
 pub begins-over : {a : List ℕ} {k : Counters} {c c′ d : Cursor} {number n m f g : ℕ} → Begins a k c n f c′ → number < n → nextBlock a (k .used) (k .reports) c ≡ step.Posting m g d → number < m
 begins-over {n = n} {m = m} b h e = let z : n ≡ m = cc (b .next) in omega arith
 

@@ -147,9 +147,9 @@ fn print_refusal(n: u8) {
 fn report_frame(frame: &[u8]) {
     match frames::check_report(frame) {
         Report::Refused(n) => print_refusal(n),
-        Report::Lines(first) => {
+        Report::Lines(_) => {
             print(b" lines");
-            print_fields(frame, first.at, 4);
+            print_fields(frame, 4, 4);
         }
     }
 }

@@ -514,12 +514,25 @@ fn named_heads(
 }
 
 /// The gap and the count of the posting at `at` and the offset past it. Codes of one byte, which
-/// most are, are told by that byte alone.
+/// most are, are told by that byte alone, and most others by two.
 #[inline(always)]
 fn decode(part: &[u8], at: usize) -> Option<(u32, u32, usize)> {
     let byte = part[at];
     if byte < 128 && byte & 3 != 0 {
         return Some((u32::from(byte >> 2) + 1, u32::from(byte & 3), at + 1));
+    }
+    if at + 1 < part.len() {
+        let next = part[at + 1];
+        if next != 0 && next < 128 {
+            if byte < 128 {
+                if byte != 0 {
+                    return Some((u32::from(byte >> 2), u32::from(next) + 3, at + 2));
+                }
+            } else if byte & 3 != 0 {
+                let first = u32::from(byte & 0x7F) | u32::from(next) << 7;
+                return Some(((first >> 2) + 1, first & 3, at + 2));
+            }
+        }
     }
     decode_long(part, at)
 }
@@ -675,10 +688,16 @@ impl<'a> Cursor<'a> {
         }
     }
 
+    /// Whether another posting stands in the block.
+    #[inline(always)]
+    fn has_more(&self) -> bool {
+        self.at < self.end && (self.is_tail || self.block[self.at] != 0)
+    }
+
     /// Goes one posting on; false at the end of the chain.
     #[inline(always)]
     fn advance(&mut self) -> bool {
-        if self.at < self.end && (self.is_tail || self.block[self.at] != 0) {
+        if self.has_more() {
             self.read();
             return true;
         }
@@ -689,15 +708,38 @@ impl<'a> Cursor<'a> {
         true
     }
 
-    /// Goes on to the first posting at or past a number; false where there is none.
+    /// Goes on to the first posting at or past a number; false where there is none. Behind the block
+    /// at hand, whole blocks are passed by their first posting alone.
     #[inline(always)]
     fn seek(&mut self, number: u32) -> bool {
         while self.number < number {
-            if !self.advance() {
+            if self.has_more() {
+                self.read();
+                continue;
+            }
+            if self.is_tail {
                 return false;
             }
+            self.open(word(self.block, 0), 4);
+            while self.number < number && self.pass_block(number) {}
         }
         true
+    }
+
+    /// Goes on to the next block where that one's first number is not over `number`.
+    #[inline(always)]
+    fn pass_block(&mut self, number: u32) -> bool {
+        if self.is_tail {
+            return false;
+        }
+        let next = word(self.block, 0);
+        match decode(&self.blocks[next as usize], 4) {
+            Some((gap, _, _)) if self.first + gap <= number => {
+                self.open(next, 4);
+                true
+            }
+            _ => false,
+        }
     }
 }
 

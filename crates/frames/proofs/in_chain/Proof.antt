@@ -8,9 +8,9 @@ use Prim.Native.Nat.{ℕ, _<_}
 use lib.ListN.{getD}
 use Rattle.basics.specs.Lists.{same}
 use Rattle.frames.specs.Frames.{countBytes, Field, foldedAt}
-use Rattle.frames.specs.Repeats.{chain}
+use Rattle.frames.specs.Repeats.{slotOf, chain}
 use Rattle.frames.proofs.Fields.{field-term}
-use Rattle.frames.proofs.Repeats.{hasTerm, has-none, has-more}
+use Rattle.frames.proofs.Repeats.{before-less, hasTerm, has-none, has-more}
 use Rattle.frames.proofs.in_chain.Statement.{statement}
 use Rattle.frames.proofs.in_chain.Tie as tie
 
@@ -47,10 +47,10 @@ module _ (c : tie.In-loop Inv-loop μ-loop) where
   line : Field countBytes frame at
   line = c .before .loop .inv .1 some
 
-  down : getD earlier at 0 < at
-  down = entry .pre .1 .falls at some
+  down : getD earlier (slotOf at) 0 < at
+  down = before-less earlier (entry .pre .1 .falls) at some
 
-  turn : hasTerm frame term (chain earlier (entry .args .last)) ≡ same term (foldedAt frame at) || hasTerm frame term (chain earlier (getD earlier at 0))
+  turn : hasTerm frame term (chain earlier (entry .args .last)) ≡ same term (foldedAt frame at) || hasTerm frame term (chain earlier (getD earlier (slotOf at) 0))
   turn = c .before .loop .inv .0 ∙ has-more frame term earlier (entry .pre .1 .falls) at some
 
 name-requires : tie.Need-name-requires Inv-loop μ-loop
@@ -88,7 +88,7 @@ loop-less c = down (here (c .before .before))
 loop-again : tie.Need-loop-again Inv-loop μ-loop
 loop-again c =
     let h = here (c .before .before) in
-    (turn h ∙ rw (test (c .before .before) ∙ c .before .if1 .left), entry h .pre .1 .whole (at h))
+    (turn h ∙ rw (test (c .before .before) ∙ c .before .if1 .left), entry h .pre .1 .whole (slotOf (at h)))
 
 returns-2 : tie.Need-returns-2 Inv-loop μ-loop
 returns-2 c =

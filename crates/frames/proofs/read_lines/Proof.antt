@@ -16,7 +16,7 @@ use Rattle.terms.proofs.Laws.{judged-term, judged-hash}
 use Rattle.frames.specs.Frames.{countBytes, termAt, countAt, pastField, Field, foldedAt}
 use Rattle.frames.proofs.Fields.{past-more, field-term}
 use Rattle.frames.proofs.Reports.{fields-cut, fields-bad, fields-zero, fields-none}
-use Rattle.frames.proofs.Read.{Reading, reading-none, reading-whole, reading-bad, reading-zero, reading-hashed, reading-cut, reading-room, reading-more}
+use Rattle.frames.proofs.Read.{Reading, reading-none, reading-whole, reading-bad, reading-zero, reading-count, reading-hashed, reading-cut, reading-room, reading-more}
 use Rattle.basics.proofs.Lists.{or-true, or-false}
 use Rattle.frames.proofs.read_lines.Statement.{statement}
 use Rattle.frames.proofs.read_lines.Tie as tie
@@ -34,7 +34,7 @@ loop-holds c =
     (refl, reading-none (s .args .frame .now) (s .args .hashes .now) (s .pre .2))
 
 past-requires : tie.Need-past-requires Inv-loop μ-loop
-past-requires c κs = (c .if1 .taken, omega arith)
+past-requires c κs = (c .loop-test .taken, omega arith)
 
 same-length : tie.Need-same-length Inv-loop μ-loop
 same-length c = search needs
@@ -42,7 +42,7 @@ same-length c = search needs
 -- the line in hand
 module _ (p : tie.After-past Inv-loop μ-loop) where
   abbrev l : tie.At-loop Inv-loop μ-loop
-  l = p .before .before .before
+  l = p .before .before
 
   abbrev s : tie.Start Inv-loop μ-loop
   s = l .before .before .before .before
@@ -54,21 +54,21 @@ module _ (p : tie.After-past Inv-loop μ-loop) where
   at = l .loop .c .at
 
   abbrev here : at < length f
-  here = p .before .if1 .taken
+  here = p .before .loop-test .taken
 
 returns : tie.Need-returns Inv-loop μ-loop
 returns c =
-    let p = c .before .before in
-    let e : length (f p) < pastField countBytes (f p) (at p) = rw (p .past .ensures) at (c .if2 .taken) in
+    let p = c .before in
+    let e : length (f p) < pastField countBytes (f p) (at p) = rw (p .past .ensures) at (c .if1 .taken) in
     (sym (fields-cut (f p) (reading-cut (l p .loop .inv .1) (here p) e)), λ z. absurd (omega arith))
 
 -- a whole line
-module _ (e : tie.Else2 Inv-loop μ-loop) where
+module _ (e : tie.Else1 Inv-loop μ-loop) where
   abbrev p : tie.After-past Inv-loop μ-loop
-  p = e .before .before
+  p = e .before
 
   ends : pastField countBytes (f p) (at p) ≤ length (f p)
-  ends = rw (p .past .ensures) at (e .if2 .left)
+  ends = rw (p .past .ensures) at (e .if1 .left)
 
   line : Field countBytes (f p) (at p)
   line = record { starts = here p; ends = ends }
@@ -81,7 +81,7 @@ judge-requires c κs = tt
 
 -- its folded term judged
 module _ (j : tie.After-judge Inv-loop μ-loop) where
-  abbrev e : tie.Else2 Inv-loop μ-loop
+  abbrev e : tie.Else1 Inv-loop μ-loop
   e = j .before .before
 
   judged : j .judge .result ≡ judgedAs (foldedAt (f (p e)) (at (p e)))
@@ -106,7 +106,7 @@ add-n : tie.Need-add-n Inv-loop μ-loop
 add-n c = omega (arith, l (p (e c)) .loop .inv .1 .room, here (p (e c)), s (p (e c)) .pre .0)
 
 count-requires : tie.Need-count-requires Inv-loop μ-loop
-count-requires c κs = line (e (c .before .before))
+count-requires c κs = line (e (c .before))
 
 -- a term that is none is remembered
 kept : (a t a′ : Bool) → ((not t ≡ true) × (a′ ≡ true)) ⊎ ((not t ≡ false) × (a′ ≡ a)) → a || not t ≡ a′
@@ -115,25 +115,25 @@ kept a t a′ (inr (z, q)) = rw (z, q) (or-false a)
 
 -- on to the next line
 module _ (k : tie.After-count Inv-loop μ-loop) where
-  abbrev q : tie.Joined3 Inv-loop μ-loop
+  abbrev q : tie.Joined2 Inv-loop μ-loop
   q = k .before
 
   abbrev j : tie.After-judge Inv-loop μ-loop
-  j = q .before .before
+  j = q .before
 
   abbrev b : tie.After-past Inv-loop μ-loop
   b = p (e j)
 
-  bads : l b .loop .bad || not (isTerm (termAt (f b) (at b))) ≡ q .if3 .bad
+  bads : l b .loop .bad || not (isTerm (termAt (f b) (at b))) ≡ q .if2 .bad
   bads =
       rw (← is-term j)
-      (kept (l b .loop .bad) (j .judge .result .term) (q .if3 .bad)
-      (⊎-elim (λ v. inl (v .0 .taken, v .1)) (λ v. inr (v .0 .left, v .1)) (q .if3 .came)))
+      (kept (l b .loop .bad) (j .judge .result .term) (q .if2 .bad)
+      (⊎-elim (λ v. inl (v .0 .taken, v .1)) (λ v. inr (v .0 .left, v .1)) (q .if2 .came)))
 
   on : (z : Bool) → l b .loop .zero || eqb (countAt (f b) (at b)) 0 ≡ z
-      → Reading (f b) (set (l b .loop .hashes) (l b .loop .n) (j .judge .result .hash)) (b .past .result .at) (l b .loop .n + 1) (q .if3 .bad) z
+      → Reading (f b) (set (l b .loop .hashes) (l b .loop .n) (j .judge .result .hash)) (b .past .result .at) (l b .loop .n + 1) (q .if2 .bad) z
   on z h =
-      reading-more (l b .loop .inv .1) (here b) (j .judge .result .hash) (b .past .result .at) (q .if3 .bad) z (s b .pre .0) (ends (e j)) (hash-is j) (b .past .ensures) bads h
+      reading-more (l b .loop .inv .1) (here b) (j .judge .result .hash) (b .past .result .at) (q .if2 .bad) z (s b .pre .0) (ends (e j)) (hash-is j) (b .past .ensures) bads h
 
   kept-length : length (set (l b .loop .hashes) (l b .loop .n) (j .judge .result .hash)) ≡ length (s b .args .hashes .now)
   kept-length = simp length-set (l b .loop .inv .0)
@@ -147,7 +147,7 @@ loop-less c = less (c .before)
 loop-again : tie.Need-loop-again Inv-loop μ-loop
 loop-again c =
     let k = c .before in
-    let z : countAt (f (b k)) (at (b k)) ≡ 0 = sym (k .count .ensures) ∙ c .if4 .taken in
+    let z : countAt (f (b k)) (at (b k)) ≡ 0 = sym (k .count .ensures) ∙ c .if3 .taken in
     (kept-length k, on k true (rw (eq-eqb _ 0 z) (or-true (l (b k) .loop .zero))))
 
 loop-less-2 : tie.Need-loop-less-2 Inv-loop μ-loop
@@ -156,7 +156,7 @@ loop-less-2 c = less (c .before)
 loop-again-2 : tie.Need-loop-again-2 Inv-loop μ-loop
 loop-again-2 c =
     let k = c .before in
-    let z : countAt (f (b k)) (at (b k)) ≡ 0 → ⊥ = λ e. c .if4 .left (k .count .ensures ∙ e) in
+    let z : countAt (f (b k)) (at (b k)) ≡ 0 → ⊥ = λ e. c .if3 .left (k .count .ensures ∙ e) in
     (kept-length k, on k (l (b k) .loop .zero) (rw (ne-eqb _ 0 z) (or-false (l (b k) .loop .zero))))
 
 same-length-2 : tie.Need-same-length-2 Inv-loop μ-loop
@@ -164,30 +164,30 @@ same-length-2 c = search needs
 
 returns-2 : tie.Need-returns-2 Inv-loop μ-loop
 returns-2 c =
-    let m = c .before .before .before in
+    let m = c .before .before in
     let r = m .loop .inv .1 in
-    let h = c .before .if1 .left in
-    (sym (fields-bad (m .before .before .before .before .args .frame .now) (reading-whole r h) (reading-bad r h ∙ c .if5 .taken)), λ z. absurd (omega arith))
+    let h = c .before .loop-test .left in
+    (sym (fields-bad (m .before .before .before .before .args .frame .now) (reading-whole r h) (reading-bad r h ∙ c .if4 .taken)), λ z. absurd (omega arith))
 
 same-length-3 : tie.Need-same-length-3 Inv-loop μ-loop
 same-length-3 c = search needs
 
 returns-3 : tie.Need-returns-3 Inv-loop μ-loop
 returns-3 c =
-    let m = c .before .before .before .before in
+    let m = c .before .before .before in
     let r = m .loop .inv .1 in
-    let h = c .before .before .if1 .left in
-    (sym (fields-zero (m .before .before .before .before .args .frame .now) (reading-whole r h) (reading-bad r h ∙ c .before .if5 .left) (reading-zero r h ∙ c .if6 .taken)), λ z. absurd (omega arith))
+    let h = c .before .before .loop-test .left in
+    (sym (fields-zero (m .before .before .before .before .args .frame .now) (reading-whole r h) (reading-bad r h ∙ c .before .if4 .left) (reading-zero r h ∙ c .if5 .taken)), λ z. absurd (omega arith))
 
 same-length-4 : tie.Need-same-length-4 Inv-loop μ-loop
 same-length-4 c = search needs
 
 returns-4 : tie.Need-returns-4 Inv-loop μ-loop
 returns-4 c =
-    let m = c .before .before .before .before in
+    let m = c .before .before .before in
     let r = m .loop .inv .1 in
-    let h = c .before .before .if1 .left in
-    (sym (fields-none (m .before .before .before .before .args .frame .now) (reading-whole r h) (reading-bad r h ∙ c .before .if5 .left) (reading-zero r h ∙ c .if6 .left)), λ z. reading-hashed r h)
+    let h = c .before .before .loop-test .left in
+    (sym (fields-none (m .before .before .before .before .args .frame .now) (reading-whole r h) (reading-bad r h ∙ c .before .if4 .left) (reading-zero r h ∙ c .if5 .left)), λ z. (reading-count r h, r .few, reading-hashed r h))
 
 pub read-lines-spec : {M : Type 1} → statement M
 read-lines-spec =

@@ -68,7 +68,7 @@ same-length-2 c = search needs
 
 returns-2 : tie.Need-returns-2
 returns-2 c =
-    let l = c .before .before .before in
+    let l = c .before .before .before .before in
     let o = past-head (l .before .before .before .before .before) in
     let e = l .read-lines .ensures .0 in
     let h : 0 < firstOf (fieldRows (f o)) = omega (arith, e, c .if2 .taken) in
@@ -77,7 +77,7 @@ returns-2 c =
 -- past refusals 4 to 6
 module _ (c : tie.Else2) where
   abbrev l : tie.After-read-lines
-  l = c .before .before .before
+  l = c .before .before .before .before
 
   abbrev o : tie.After-fold
   o = l .before .before .before .before .before
@@ -89,7 +89,7 @@ module _ (c : tie.Else2) where
   none = sym (l .read-lines .ensures .0) ∙ c .if2 .left
 
   read : Read g (o .fold .last .1 .0) (l .read-lines .last .1 .1 .0)
-  read = record { folds = folds o; hashed = l .read-lines .ensures .1 (c .if2 .left) }
+  read = let e = l .read-lines .ensures .1 (c .if2 .left) in record { folds = folds o; hashed = e .2; few = rw (e .0) at (e .1) }
 
 repeated-term-requires : tie.Need-repeated-term-requires
 repeated-term-requires c κs = let e = c .before .before in (sized (past-head (o e)) .short, no-field (g e) (none e) .0, read e)
@@ -114,7 +114,8 @@ same-length-6 c = search needs
 returns-4 : tie.Need-returns-4
 returns-4 c =
     let e = c .before .before .before .before in
-    (sym (report-sound (g e) (head (past-head (o e))) (none e) (sym (c .before .repeated-term .ensures) ∙ c .if3 .left)), λ z. read e)
+    let n = l e .read-lines .ensures .1 (e .if2 .left) .0 in
+    (ap report.Lines n ∙ sym (report-sound (g e) (head (past-head (o e))) (none e) (sym (c .before .repeated-term .ensures) ∙ c .if3 .left)), λ z. read e)
 
 pub read-report-spec : {M : Type 1} → statement M
 read-report-spec =

@@ -4,7 +4,7 @@ use borrow.Author.Needs.{needs}
 use native.Mathlib.Omega.{arith}
 use mathlib.Core.Path.{_≡_, refl, sym, ap, _∙_}
 use mathlib.Core.List.{List}
-use Prim.Native.Nat.{ℕ, _-_, _%_, _≤_, _<_}
+use Prim.Native.Nat.{ℕ, _-_, _*_, _%_, _≤_, _<_}
 use lib.ListN.{length, getD}
 use Rattle.frames.specs.Frames.{countBytes, foldedAt}
 use Rattle.frames.specs.Read.{Hashed}
@@ -25,7 +25,7 @@ abbrev μ-loop : tie.MeasureT-loop
 loop-holds : tie.Need-loop-holds Inv-loop μ-loop
 loop-holds c =
     let s = c .before .before .before in
-    (passed-none (s .args .frame .now) 256 4100 refl refl (omega arith) (s .pre .1), s .pre .2 .hashed, omega arith)
+    (passed-none (s .args .frame .now) 256 820 refl refl (omega arith) (s .pre .1), s .pre .2 .hashed, omega arith)
 
 -- the line in hand
 module _ (c : tie.Then1 Inv-loop μ-loop) where
@@ -41,7 +41,7 @@ module _ (c : tie.Then1 Inv-loop μ-loop) where
   abbrev term : List ℕ
   term = foldedAt frame at
 
-  small : at < slots
+  small : at < 5 * slots
   small = omega (arith, c .if1 .taken, l .loop .inv .0 .chained 0 .room)
 
   bucket-is : getD (l .before .before .before .before .args .hashes .now) (l .loop .n) 0 % 256 ≡ bucket term
@@ -88,7 +88,7 @@ mul-earlier : tie.Need-mul-earlier Inv-loop μ-loop
 mul-earlier c = omega (arith, small (here (c .before)))
 
 array-write-earlier : tie.Need-array-write-earlier Inv-loop μ-loop
-array-write-earlier c = small (here (c .before))
+array-write-earlier c = omega (arith, small (here (c .before)))
 
 cast-last : tie.Need-cast-last Inv-loop μ-loop
 cast-last c = omega (arith, small (here (c .before)))

@@ -47,7 +47,7 @@ held c =
     held-right k (right (k .arena) (k .table) (k .counters) (fine e)) (c .if2 .left) (omega arith)
 
 plan-lines-requires : tie.Need-plan-lines-requires
-plan-lines-requires c κs = let p = s (c .before .before) .pre in (held c .room, p .0, p .1)
+plan-lines-requires c κs = let p = s (c .before .before) .pre in (held c .room, p .0, p .1, p .2)
 
 judge-requires : tie.Need-judge-requires
 judge-requires c κs = (held (c .before), c .plan-lines .ensures .1)

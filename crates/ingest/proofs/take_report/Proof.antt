@@ -6,7 +6,8 @@ use mathlib.Core.List.{List}
 use Prim.Native.Nat.{ℕ}
 use native.Mathlib.Omega.{arith}
 use denote.Ref.{now}
-use Rattle.frames.specs.Frames.{reportRefusal}
+use lib.ListN.{length}
+use Rattle.frames.specs.Frames.{lines, reportRefusal}
 use Rattle.frames.proofs.Laws.{lines-sound, report-refused}
 use Rattle.counters.specs.Counters.{Memory, memory}
 use Rattle.ingest.specs.Report.{callRefusal, takenOf}
@@ -36,19 +37,22 @@ enum-known-n c = search needs
 refused-requires : tie.Need-refused-requires
 refused-requires c κs = search needs
 
-enum-told : tie.Need-enum-told
-enum-told c = search needs
+enum-known-count : tie.Need-enum-known-count
+enum-known-count c = search needs
 
 -- a sound frame
-module _ (c : tie.After-enum-told) where
+module _ (c : tie.After-count) where
   abbrev s : tie.Start
   s = c .before .before .before .before .before .before .before .before .before .before
 
   abbrev r : tie.After-read-report
   r = c .before .before .before .before
 
+  told : (reportRefusal (frame s) ≡ 0) × (c .count .given .0 .0 ≡ length (lines (frame s)))
+  told = lines-sound (frame s) _ (sym (r .read-report .ensures .0) ∙ c .count .given .1)
+
   sound : reportRefusal (frame s) ≡ 0
-  sound = lines-sound (frame s) _ (sym (r .read-report .ensures .0) ∙ c .enum-told .given .1) .0
+  sound = told .0
 
 slice-aggregate-judge-report : tie.Need-slice-aggregate-judge-report
 slice-aggregate-judge-report c = search needs
@@ -57,7 +61,7 @@ slice-aggregate-judge-report-2 : tie.Need-slice-aggregate-judge-report-2
 slice-aggregate-judge-report-2 c = search needs
 
 judge-report-requires : tie.Need-judge-report-requires
-judge-report-requires c κs = let e = c .before .before .before .before in (sound e, r e .read-report .ensures .1 (sound e))
+judge-report-requires c κs = let e = c .before .before .before .before .before in (sound e, r e .read-report .ensures .1 (sound e), told e .1)
 
 refused-requires-2 : tie.Need-refused-requires-2
 refused-requires-2 c κs = search needs
@@ -72,14 +76,14 @@ returns : tie.Need-returns
 unfolding takenOf
 returns c =
     let j = c .before .before in
-    let e = j .before .before .before .before .before in
+    let e = j .before .before .before .before .before .before in
     rw (c .refused2 .ensures, j .judge-report .ensures)
     (answers (m (s e)) (frame (s e)) (call-refused (m (s e)) (frame (s e)) (rw (← j .judge-report .ensures) (c .before .if1 .taken))))
 
 -- a call that is not refused
 module _ (c : tie.Else1) where
-  abbrev e : tie.After-enum-told
-  e = c .before .before .before .before .before .before
+  abbrev e : tie.After-count
+  e = c .before .before .before .before .before .before .before
 
   judges : callRefusal (m (s e)) (frame (s e)) ≡ 0
   judges = sym (c .before .judge-report .ensures) ∙ c .if1 .left
@@ -153,7 +157,7 @@ take-report-spec =
     read-report-requires
     enum-known-n
     refused-requires
-    enum-told
+    enum-known-count
     slice-aggregate-judge-report
     slice-aggregate-judge-report-2
     judge-report-requires

@@ -17,8 +17,8 @@ enum-known-n c = search needs
 print-refusal-requires : tie.Need-print-refusal-requires
 print-refusal-requires c κs = search needs
 
-enum-known-first : tie.Need-enum-known-first
-enum-known-first c = search needs
+enum-told : tie.Need-enum-told
+enum-told c = search needs
 
 slice-aggregate-print : tie.Need-slice-aggregate-print
 slice-aggregate-print c = search needs
@@ -28,8 +28,8 @@ print-requires c κs = search needs
 
 print-fields-requires : tie.Need-print-fields-requires
 print-fields-requires c κs =
-    let k = c .before .before .before in
-    let r = lines-ready (now (k .before .before .before .before .args .frame)) (k .first .given .0 .0) (sym (k .before .before .check-report .ensures) ∙ k .first .given .1) in
+    let k = c .before .before in
+    let r = lines-ready (now (k .before .before .before .before .args .frame)) _ (sym (k .before .before .check-report .ensures) ∙ k .enum-told .given .1) in
     (omega arith, r .0, r .1)
 
 returns : tie.Need-returns
@@ -45,7 +45,7 @@ report-frame-spec =
     check-report-requires
     enum-known-n
     print-refusal-requires
-    enum-known-first
+    enum-told
     slice-aggregate-print
     print-requires
     print-fields-requires
