@@ -101,18 +101,6 @@ pub or-right : (a b : Bool) → a || b ≡ false → b ≡ false
 or-right true b e = let z : _≡_ {A = ℕ} 0 1 = cc in absurd (omega arith)
 or-right false b e = e
 
-pub or-true : (a : Bool) → a || true ≡ true
-or-true true = refl
-or-true false = refl
-
-pub or-false : (a : Bool) → a || false ≡ a
-or-false true = refl
-or-false false = refl
-
-pub or-assoc : (a b c : Bool) → a || (b || c) ≡ (a || b) || c
-or-assoc true b c = refl
-or-assoc false b c = refl
-
 -- ---- the same list
 
 pub same-refl : (s : List ℕ) → same s s ≡ true

@@ -1,7 +1,7 @@
 -- Laws of a report's frame read once: its bytes folded, and the hashes of its lines.
 -- Assumes nothing.
 use mathlib.Core.Path.{_≡_, refl, sym, ap, _∙_}
-use mathlib.Core.Bool.{Bool, true, false, not, _||_}
+use mathlib.Core.Bool.{Bool, true, false, not, _||_, or-false, or-assoc}
 use mathlib.Core.List.{List, [], _∷_, _++_, append-assoc, append-nil}
 use Prim.Native.Nat.{ℕ, _+_, _-_, _*_, _≤_, _<_}
 use native.Mathlib.Nat.{add-zero}
@@ -10,7 +10,6 @@ use native.Mathlib.Omega.{arith}
 use lib.Dec.{eqb}
 use lib.ListN.{length, getD, set, take, drop, length-set, length-take, length-drop, length-append, length-map, take-append-drop}
 use lib.Seq.{drop-drop, take-take, take-suc-set, getD-drop, length-take-le}
-use Rattle.basics.proofs.Lists.{or-false, or-assoc}
 use Rattle.basics.proofs.Parts.{drop-take}
 use Rattle.basics.specs.Lists.{any}
 use Rattle.terms.specs.Terms.{folded, fnv1a, isTerm}
@@ -131,8 +130,8 @@ module _ {f hashes : List ℕ} {at n : ℕ} {bad zero : Bool} (r : Reading f has
         let t : take (n + 1) (set hashes n x) ≡ take n hashes ++ (x ∷ []) = rw add-one (take-suc-set hashes n x (reading-room s)) in
         rw q (record {
           uncut = r .uncut ∙ passes-on countBytes f at h p;
-          bads = r .bads ∙ ap (λ (y : Bool). bad || y) (bad-step f at h) ∙ or-assoc bad (not (isTerm (termAt f at))) (badTerm f (fields countBytes f past)) ∙ rw b;
-          zeros = r .zeros ∙ ap (λ (y : Bool). zero || y) (zero-step f at h) ∙ or-assoc zero (eqb (countAt f at) 0) (zeroCount f (fields countBytes f past)) ∙ rw z;
+          bads = r .bads ∙ ap (λ (y : Bool). bad || y) (bad-step f at h) ∙ sym (or-assoc bad (not (isTerm (termAt f at))) (badTerm f (fields countBytes f past))) ∙ rw b;
+          zeros = r .zeros ∙ ap (λ (y : Bool). zero || y) (zero-step f at h) ∙ sym (or-assoc zero (eqb (countAt f at) 0) (zeroCount f (fields countBytes f past))) ∙ rw z;
           hashed = r .hashed ∙ ap (λ (hs : List ℕ). take n hashes ++ hs) (hashes-more f at h) ∙ sym (rw (t, e) (append-assoc (take n hashes) (fnv1a (foldedAt f at) ∷ []) (hashesOf f (fields countBytes f past))));
           room = omega (arith, r .room, past-five f at);
           few = omega (arith, r .room);

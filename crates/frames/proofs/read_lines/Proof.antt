@@ -1,7 +1,7 @@
 -- `frames::read_lines` meets its contract: from line to line it is known what rows 4 to 6 say so far, and the hashes (`Reading`).
 -- Assumes nothing.
 use mathlib.Core.Path.{_≡_, refl, sym, ap, _∙_}
-use mathlib.Core.Bool.{Bool, true, false, not, _||_}
+use mathlib.Core.Bool.{Bool, true, false, not, _||_, or-true, or-false}
 use mathlib.Core.List.{List}
 use mathlib.Core.Logic.{_⊎_, inl, inr, ⊎-elim}
 use Prim.Native.Nat.{ℕ, _+_, _-_, _≤_, _<_}
@@ -17,7 +17,6 @@ use Rattle.frames.specs.Frames.{countBytes, termAt, countAt, pastField, 
 use Rattle.frames.proofs.Fields.{past-more, field-term}
 use Rattle.frames.proofs.Reports.{fields-cut, fields-bad, fields-zero, fields-none}
 use Rattle.frames.proofs.Read.{Reading, reading-none, reading-whole, reading-bad, reading-zero, reading-count, reading-hashed, reading-cut, reading-room, reading-more}
-use Rattle.basics.proofs.Lists.{or-true, or-false}
 use Rattle.frames.proofs.read_lines.Statement.{statement}
 use Rattle.frames.proofs.read_lines.Tie as tie
 
