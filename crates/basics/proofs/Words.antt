@@ -1,13 +1,20 @@
 -- Laws of 32-bit numbers in four bytes.
 -- Assumes nothing.
 use mathlib.Core.Path.{_≡_, refl, _∙_}
+use mathlib.Core.Bool.{false, _&&_}
 use mathlib.Core.List.{List, _++_}
 use Prim.Native.Nat.{ℕ, zero, suc, _+_, _^_, _≤_, _<_}
 use native.Mathlib.Nat.{add-zero, add-assoc}
+use native.Mathlib.Numerals.{add-one}
 use native.Mathlib.Omega.{arith}
-use lib.ListN.{length, getD}
-use lib.Seq.{sets}
+use borrow.Author.Tests.{eq-eqb, ne-eqb}
+use lib.Dec.{eqb}
+use lib.ListN.{length, getD, drop}
+use lib.Seq.{sets, getD-drop}
 use Rattle.basics.specs.Words.{word, wordAt}
+use Rattle.basics.specs.Lists.{same}
+use Rattle.basics.proofs.Cases.{by-eq}
+use Rattle.basics.proofs.Lists.{same-drop, ne-same}
 use Rattle.basics.proofs.Stores.{getD-sets, getD-sets-before, getD-sets-after}
 
 -- a number takes four bytes
@@ -70,3 +77,42 @@ unfolding word wordAt
 wordAt-stored s at n h =
     let e = wordAt-within s at (word n) 0 (omega arith) (omega arith) in
     (rw add-zero at e) ∙ omega arith
+
+-- ---- two lists of bytes, compared four at a time
+
+module _ (s t : List ℕ) (byte-s : (j : ℕ) → getD s j 0 < 256) (byte-t : (j : ℕ) → getD t j 0 < 256) (i : ℕ) (in-s : i + 4 ≤ length s) (in-t : i + 4 ≤ length t) where
+  -- equal numbers have equal bytes
+  bytes-of : wordAt s i ≡ wordAt t i → (k : ℕ) → k < 4 → getD s (i + k) 0 ≡ getD t (i + k) 0
+  unfolding wordAt
+  bytes-of e zero h = rw add-zero (omega (arith, byte-s (i + 1), byte-s (i + 2), byte-s (i + 3), byte-t (i + 1), byte-t (i + 2), byte-t (i + 3)))
+  bytes-of e (suc zero) h =
+      omega (arith, byte-s (i + 1), byte-s (i + 2), byte-s (i + 3), byte-t (i + 1), byte-t (i + 2), byte-t (i + 3))
+  bytes-of e (suc (suc zero)) h =
+      omega (arith, byte-s (i + 1), byte-s (i + 2), byte-s (i + 3), byte-t (i + 1), byte-t (i + 2), byte-t (i + 3))
+  bytes-of e (suc (suc (suc zero))) h =
+      omega (arith, byte-s (i + 1), byte-s (i + 2), byte-s (i + 3), byte-t (i + 1), byte-t (i + 2), byte-t (i + 3))
+  bytes-of e (suc (suc (suc (suc k)))) h = absurd (omega arith)
+
+  -- then the lists are the same if they are so behind any of these bytes
+  pub same-past : wordAt s i ≡ wordAt t i → (m : ℕ) → m ≤ 4 → same (drop i s) (drop i t) ≡ same (drop (i + m) s) (drop (i + m) t)
+  same-past e zero h = rw add-zero
+  same-past e (suc m) h =
+      same-past e m (omega arith)
+      ∙ same-drop s t (i + m) (omega arith) (omega arith)
+      ∙ rw (eq-eqb (getD s (i + m) 0) (getD t (i + m) 0) (bytes-of e m h), add-assoc, add-one)
+
+  -- numbers that differ tell lists that differ
+  pub other-word : (wordAt s i ≡ wordAt t i → ⊥) → same (drop i s) (drop i t) ≡ false
+  unfolding wordAt
+  other-word n = ne-same (drop i s) (drop i t) (λ e. n (words e))
+    where
+      byte : drop i s ≡ drop i t → (k : ℕ) → getD s (i + k) 0 ≡ getD t (i + k) 0
+      byte e k = rw (← getD-drop i s k 0, ← getD-drop i t k 0, e)
+
+      words : drop i s ≡ drop i t → wordAt s i ≡ wordAt t i
+      words e = rw (rw add-zero at (byte e 0), byte e 1, byte e 2, byte e 3)
+
+  -- both together
+  pub same-words : same (drop i s) (drop i t) ≡ eqb (wordAt s i) (wordAt t i) && same (drop (i + 4) s) (drop (i + 4) t)
+  same-words =
+      by-eq (wordAt s i) (wordAt t i) (λ e. rw (eq-eqb (wordAt s i) (wordAt t i) e) (same-past e 4 (omega arith))) (λ n. rw (ne-eqb (wordAt s i) (wordAt t i) n) (other-word n))

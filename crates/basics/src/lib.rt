@@ -35,13 +35,11 @@ pub fn write_word(s: &mut [u8], at: usize, n: u32)
     s[at + 3] = (n % 256) as u8;
 }
 
-// Whether two slices have the same bytes.
-pub fn same_bytes(a: &[u8], b: &[u8]) -> bool
+// Whether two slices of one length have the same bytes, one byte after the other.
+fn same_short(a: &[u8], b: &[u8]) -> bool
+    requires { ⌜ length (now a) ≡ length (now b) ⌝ }
     ensures { λ r. ⌜ r ≡ same (now (a .entry)) (now (b .entry)) ⌝ }
 {
-    if a.len() != b.len() {
-        return false;
-    }
     let mut i: usize = 0;
     while i < a.len() {
         if a[i] != b[i] {
@@ -50,4 +48,25 @@ pub fn same_bytes(a: &[u8], b: &[u8]) -> bool
         i += 1;
     }
     true
+}
+
+// Whether two slices have the same bytes. They are compared four at a time; the last four may overlap those before them.
+pub fn same_bytes(a: &[u8], b: &[u8]) -> bool
+    ensures { λ r. ⌜ r ≡ same (now (a .entry)) (now (b .entry)) ⌝ }
+{
+    let n = a.len();
+    if n != b.len() {
+        return false;
+    }
+    if n < 4 {
+        return same_short(a, b);
+    }
+    let mut i: usize = 0;
+    while i < n - 4 {
+        if read_word(a, i) != read_word(b, i) {
+            return false;
+        }
+        i += 4;
+    }
+    read_word(a, n - 4) == read_word(b, n - 4)
 }

@@ -1,75 +1,100 @@
--- `basics::same_bytes` meets its contract: the bytes are the same exactly when their number and those left are.
+-- `basics::same_bytes` meets its contract. As long as the words passed are equal, the slices are the same exactly when they are so from any place on
+-- that was passed; so the last four bytes may overlap those before them.
 -- Assumes nothing.
 use mathlib.Core.Path.{_≡_, refl, sym, ap, _∙_}
-use mathlib.Core.Bool.{_&&_}
-use Prim.Native.Nat.{ℕ, _+_, _-_}
+use mathlib.Core.List.{List}
+use Prim.Native.Nat.{ℕ, _+_, _-_, _≤_, _<_}
 use native.Mathlib.Omega.{arith}
 use borrow.Author.Needs.{needs}
-use borrow.Author.Tests.{eq-eqb, ne-eqb}
 use lib.Dec.{eqb}
 use lib.ListN.{length, getD, drop}
+use Rattle.basics.specs.Words.{wordAt}
 use Rattle.basics.specs.Lists.{same}
-use Rattle.basics.proofs.Lists.{same-drop, same-none, ne-same}
+use Rattle.basics.proofs.Lists.{and-true, same-none, ne-same}
+use Rattle.basics.proofs.Cases.{by-lt}
+use Rattle.basics.proofs.Words.{same-past, other-word, same-words}
 use Rattle.basics.proofs.same_bytes.Statement.{statement}
 use Rattle.basics.proofs.same_bytes.Tie as tie
 
 abbrev Inv-loop : tie.InvT-loop
-Inv-loop a b i₀ i = same a b ≡ same (drop i a) (drop i b)
+Inv-loop a b n i₀ i = (m : ℕ) → m ≤ i → same a b ≡ same (drop m a) (drop m b)
 
 abbrev μ-loop : tie.MeasureT-loop
-μ-loop a b i₀ i = length a - i
+μ-loop a b n i₀ i = n - i
 
 returns : tie.Need-returns Inv-loop μ-loop
 returns c =
-    let s = c .before .args in
+    let s = c .before .before .before .args in
     sym (ne-same (s .a .now) (s .b .now) (λ e. c .if1 .taken (ap length e)))
 
-loop-holds : tie.Need-loop-holds Inv-loop μ-loop
-loop-holds c = refl
-
-shared-slice-read-if2 : tie.Need-shared-slice-read-if2 Inv-loop μ-loop
-shared-slice-read-if2 c = search needs
-
-shared-slice-read-if2-2 : tie.Need-shared-slice-read-if2-2 Inv-loop μ-loop
-shared-slice-read-if2-2 c = search needs
-
--- the bytes in hand, and those behind them
-module _ (l : tie.In-loop Inv-loop μ-loop) where
-  abbrev s : tie.Start Inv-loop μ-loop
-  s = l .before .before .before
-
-  abbrev i : ℕ
-  i = l .before .loop .i
-
-  abbrev x : ℕ
-  x = getD (s .args .a .now) i 0
-
-  abbrev y : ℕ
-  y = getD (s .args .b .now) i 0
-
-  turn : same (s .args .a .now) (s .args .b .now) ≡ eqb x y && same (drop (i + 1) (s .args .a .now)) (drop (i + 1) (s .args .b .now))
-  turn = l .before .loop .inv ∙ same-drop (s .args .a .now) (s .args .b .now) i (l .loop-test .taken) (omega arith)
+same-short-requires : tie.Need-same-short-requires Inv-loop μ-loop
+same-short-requires c κs = search needs
 
 returns-2 : tie.Need-returns-2 Inv-loop μ-loop
-returns-2 c =
-    let l = c .before .before .before in
-    sym (turn l ∙ rw (ne-eqb (x l) (y l) (c .if2 .taken)))
+returns-2 c = search needs
+
+loop-holds : tie.Need-loop-holds Inv-loop μ-loop
+loop-holds c m h =
+    let e : m ≡ 0 = omega arith in
+    rw e
+
+-- the slices, and that they hold bytes
+module _ (o : tie.At-loop Inv-loop μ-loop) where
+  abbrev known : tie.After-shared-slice-known2 Inv-loop μ-loop
+  known = o .before .before .before
+
+  abbrev a : List ℕ
+  a = known .before .before .args .a .now
+
+  abbrev b : List ℕ
+  b = known .before .before .args .b .now
+
+  byte-a : (j : ℕ) → getD a j 0 < 256
+  byte-a j = known .before .shared-slice-known .given j .fits
+
+  byte-b : (j : ℕ) → getD b j 0 < 256
+  byte-b j = known .shared-slice-known2 .given j .fits
+
+read-word-requires : tie.Need-read-word-requires Inv-loop μ-loop
+read-word-requires c κs = omega arith
+
+read-word-requires-2 : tie.Need-read-word-requires-2 Inv-loop μ-loop
+read-word-requires-2 c κs = omega arith
+
+returns-3 : tie.Need-returns-3 Inv-loop μ-loop
+returns-3 c =
+    let o = c .before .before .before .before in
+    let i = o .loop .i in
+    let ne : wordAt (a o) i ≡ wordAt (b o) i → ⊥ = λ e. c .if3 .taken (c .before .before .read-word .ensures ∙ e ∙ sym (c .before .read-word2 .ensures)) in
+    sym (o .loop .inv i (omega arith) ∙ other-word (a o) (b o) (byte-a o) (byte-b o) i (omega arith) (omega arith) ne)
 
 add-i : tie.Need-add-i Inv-loop μ-loop
-add-i c = search needs
+add-i c = omega arith
 
 loop-less : tie.Need-loop-less Inv-loop μ-loop
 loop-less c = omega arith
 
 loop-again : tie.Need-loop-again Inv-loop μ-loop
-loop-again c =
-    let l = c .before .before .before in
-    turn l ∙ rw (eq-eqb (x l) (y l) (c .if2 .left))
+loop-again c m h =
+    let o = c .before .before .before .before in
+    let i = o .loop .i in
+    let e : wordAt (a o) i ≡ wordAt (b o) i = sym (c .before .before .read-word .ensures) ∙ c .if3 .left ∙ c .before .read-word2 .ensures in
+    by-lt i m (λ lt.
+    let k : i + (m - i) ≡ m = omega arith in
+    o .loop .inv i (omega arith) ∙ (rw k at (same-past (a o) (b o) (byte-a o) (byte-b o) i (omega arith) (omega arith) e (m - i) (omega arith)))) (λ le. o .loop .inv m le)
 
-returns-3 : tie.Need-returns-3 Inv-loop μ-loop
-returns-3 c =
-    let s = c .before .before .before .args in
-    sym (c .before .loop .inv ∙ same-none (s .a .now) (s .b .now) (c .before .loop .i) (omega arith) (omega arith))
+read-word-requires-3 : tie.Need-read-word-requires-3 Inv-loop μ-loop
+read-word-requires-3 c κs = omega arith
+
+read-word-requires-4 : tie.Need-read-word-requires-4 Inv-loop μ-loop
+read-word-requires-4 c κs = omega arith
+
+returns-4 : tie.Need-returns-4 Inv-loop μ-loop
+returns-4 c =
+    let o = c .before .before .before in
+    let m = length (a o) - 4 in
+    let told = o .loop .inv m (c .before .before .loop-test .left) ∙ same-words (a o) (b o) (byte-a o) (byte-b o) m (omega arith) (omega arith) in
+    rw (c .before .read-word3 .ensures, c .read-word4 .ensures) (sym (told ∙ rw (same-none (a o) (b o) (m + 4) (omega arith) (omega arith), and-true)))
 
 pub same-bytes-spec : {M : Type 1} → statement M
 same-bytes-spec =
@@ -78,11 +103,15 @@ same-bytes-spec =
     Inv-loop
     μ-loop
     returns
-    loop-holds
-    shared-slice-read-if2
-    shared-slice-read-if2-2
+    same-short-requires
     returns-2
+    loop-holds
+    read-word-requires
+    read-word-requires-2
+    returns-3
     add-i
     loop-less
     loop-again
-    returns-3)
+    read-word-requires-3
+    read-word-requires-4
+    returns-4)
