@@ -143,11 +143,14 @@ pub fn open_head(arena: &mut [u8], b: u32, name: &[u8], number: u32, count: u32)
     put_changing(arena, b, b, number, 1, end);
 }
 
-// Whether a posting fits by byte 63 of the tail with its d-gap.
+// Whether a posting fits by byte 63 of the tail with its d-gap. A code has at most 10 bytes, so that its length matters only near the block's end.
 pub fn fits_in(d: Head, number: u32, count: u32) -> bool
     requires { ⌜ (d .last < number) × (d .end ≤ blockSize) ⌝ }
     ensures { λ r. ⌜ r ≡ fits d number count ⌝ }
 {
+    if d.end <= 54 {
+        return true;
+    }
     let gap = DGap::from_last(d.last, number);
     d.end + postings::posting_length(gap.0, count) <= 64
 }

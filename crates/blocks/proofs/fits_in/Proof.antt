@@ -1,11 +1,25 @@
--- `blocks::fits_in` meets its contract: a code has at most 10 bytes, so the sum does not wrap.
+-- `blocks::fits_in` meets its contract: a code has at most 10 bytes, so it fits where as many are left, and the sum does not wrap.
 -- Assumes nothing.
+use mathlib.Core.Path.{sym}
+use Prim.Native.Nat.{_+_, _-_}
 use borrow.Author.Needs.{needs}
+use borrow.Author.Tests.{le-leb}
+use lib.ListN.{length}
 use Rattle.blocks.proofs.fits_in.Statement.{statement}
 use Rattle.blocks.proofs.fits_in.Tie as tie
 use native.Mathlib.Omega.{arith}
 use Rattle.postings.proofs.Laws.{length-code-le}
+use Rattle.postings.specs.Coding.{code}
+use Rattle.blocks.specs.Fields.{blockSize}
 use Rattle.blocks.specs.Writes.{fits}
+
+-- far from the block's end any posting fits
+returns : tie.Need-returns
+unfolding fits
+returns c =
+    let s = c .before .before .args in
+    let gap = s .number - s .d .last in
+    sym (le-leb (s .d .end + length (code gap (s .count))) blockSize (omega (arith, length-code-le gap (s .count) (omega arith) (omega arith))))
 
 from-last-requires : tie.Need-from-last-requires
 from-last-requires c κs = search needs
@@ -16,11 +30,11 @@ posting-length-requires c κs = search needs
 add-result : tie.Need-add-result
 add-result c =
     let g = c .before .before .from-last .result .0 in
-    omega (arith, length-code-le g (c .before .before .before .args .count) (omega arith) (omega arith))
+    omega (arith, length-code-le g (c .before .before .before .before .before .args .count) (omega arith) (omega arith))
 
-returns : tie.Need-returns
+returns-2 : tie.Need-returns-2
 unfolding fits
-returns c = rw (c .before .posting-length .ensures, c .before .before .from-last .ensures)
+returns-2 c = rw (c .before .posting-length .ensures, c .before .before .from-last .ensures)
 
 pub fits-in-spec : {M : Type 1} → statement M
-fits-in-spec = tie.close (tie.spec from-last-requires posting-length-requires add-result returns)
+fits-in-spec = tie.close (tie.spec returns from-last-requires posting-length-requires add-result returns-2)
