@@ -2,9 +2,9 @@
 ghost use mathlib.Core.Path.{_≡_};
 ghost use mathlib.Core.Bool.{cond, _||_};
 ghost use Prim.Native.Nat.{_+_, _≤_, _<_};
-ghost use lib.Dec.{leb, eqb};
+ghost use lib.Dec.{ltb, leb, eqb};
 ghost use lib.ListN.{length, getD};
-ghost use Rattle.blocks.specs.Fields.{blockSize, place, partOf};
+ghost use Rattle.blocks.specs.Fields.{blockSize, place, linkOf, partOf};
 ghost use Rattle.chains.specs.Chains.{partEnd, exhausted, readAt, nextBlock, stepAt, stepFrom, atHead, badHead, chainOf, isWhole, Follows};
 ghost use Rattle.chains.specs.Parts.{passed, movedTo, passedTo, InPart, partRead};
 use blocks::Head;
@@ -200,6 +200,41 @@ pub fn pass(part: &[u8], reports: u32, at: usize, number: u32, to: u32) -> Passe
     }
 }
 
+// Reads on to the part's end, or to where no sound posting stands. The numbers are judged once, by their sum behind the loop; only where that is over
+// reports, so that the part is damaged, it is read again for the posting that is.
+fn pass_all(part: &[u8], reports: u32, at: usize, number: u32) -> Passed
+    requires { ⌜ (number ≤ reports) × (length (now part) ≤ blockSize) ⌝ }
+    ensures { λ r. ⌜ r ≡ passed (now (part .entry)) reports at number reports ⌝ }
+{
+    let mut p = at;
+    let mut n = number as u64;
+    let mut postings: u32 = 0;
+    while p < part.len() {
+        match postings::decode_at(part, p) {
+            Decoded::Rejected => {
+                break;
+            }
+            Decoded::Posting {
+                gap,
+                count: _,
+                length,
+            } => {
+                n += gap as u64;
+                p += length;
+                postings += 1;
+            }
+        }
+    }
+    if (reports as u64) < n {
+        return pass(part, reports, at, number, reports);
+    }
+    Passed {
+        at: p,
+        number: n as u32,
+        postings,
+    }
+}
+
 // The cursor's place with another offset in the same block.
 pub fn moved(c: Cursor, at: usize, number: u32) -> Cursor
     ensures { λ r. ⌜ r ≡ movedTo c at number ⌝ }
@@ -322,7 +357,7 @@ fn end_in(d: Head, b: u32) -> usize
 
 // Reads a block's part up to offset `end`: its first posting, whose gap counts from `base`, and those behind it.
 fn read_part(arena: &[u8], reports: u32, b: u32, at: usize, end: usize, base: u32) -> PartRead
-    requires { ⌜ (place b + end ≤ length (now arena)) × (base ≤ reports) ⌝ }
+    requires { ⌜ (place b + end ≤ length (now arena)) × (base ≤ reports) × (end ≤ blockSize) ⌝ }
     ensures { λ r. ⌜ r ≡ partRead (partOf (now (arena .entry)) b 0 end) reports at base ⌝ }
 {
     let start = blocks::place_of(b);
@@ -338,7 +373,7 @@ fn read_part(arena: &[u8], reports: u32, b: u32, at: usize, end: usize, base: u3
             } => {
                 if gap <= reports - base {
                     let first = base + gap;
-                    let rest = pass(part, reports, at + length, first, reports);
+                    let rest = pass_all(part, reports, at + length, first);
                     return PartRead { first, rest };
                 }
             }
@@ -354,8 +389,20 @@ fn read_part(arena: &[u8], reports: u32, b: u32, at: usize, end: usize, base: u3
     }
 }
 
+// The link of a block, where it is used.
+fn link_ahead(arena: &[u8], used: u32, b: u32) -> u32
+    requires { ⌜ place used ≤ length (now arena) ⌝ }
+    ensures { λ r. ⌜ r ≡ cond (ltb b used) (linkOf (now (arena .entry)) b) 0 ⌝ }
+{
+    if b < used {
+        return blocks::link_of(arena, b);
+    }
+    0
+}
+
 // Reads the chain of head h whole: whether it is sound. Each turn reads a block on plain numbers; `base` is the first number of the block before, 0
-// at the head, and `last` the last number read.
+// at the head, and `last` the last number read. The next block's link is asked for before this one is read: its load misses the caches, and so it
+// overlaps with the reading.
 pub fn is_sound(arena: &[u8], used: u32, reports: u32, h: u32) -> bool
     requires { ⌜ (place used ≤ length (now arena)) × (h < used) ⌝ }
     ensures { λ r. ⌜ r ≡ isWhole (chainOf (now (arena .entry)) used reports h) ⌝ }
@@ -365,14 +412,15 @@ pub fn is_sound(arena: &[u8], used: u32, reports: u32, h: u32) -> bool
         return false;
     }
     let mut b = h;
+    let mut next = blocks::link_of(arena, h);
     let mut at = 18 + d.length;
     let mut base: u32 = 0;
     let mut last: u32 = 0;
     let mut n: u32 = 0;
     let mut left = used - 1;
     loop {
-        let end = end_in(d, b);
-        let r = read_part(arena, reports, b, at, end, base);
+        let after = link_ahead(arena, used, next);
+        let r = read_part(arena, reports, b, at, end_in(d, b), base);
         if r.first <= last {
             return false;
         }
@@ -391,10 +439,11 @@ pub fn is_sound(arena: &[u8], used: u32, reports: u32, h: u32) -> bool
         if !ends_at(arena, b, p.at) {
             return false;
         }
-        b = blocks::link_of(arena, b);
+        b = next;
         if used <= b {
             return false;
         }
+        next = after;
         at = 4;
         base = r.first;
         left -= 1;

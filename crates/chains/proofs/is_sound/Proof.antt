@@ -8,11 +8,11 @@ use denote.Ref.{now}
 use mathlib.Core.Bool.{true, _||_}
 use lib.Dec.{leb, eqb}
 use lib.ListN.{length, getD}
-use borrow.Author.Tests.{eq-eqb, ne-eqb, not-true, not-false}
+use borrow.Author.Tests.{lt-ltb, eq-eqb, ne-eqb, not-true, not-false}
 use Rattle.chains.specs.declared.Cursor.{Cursor}
 use Rattle.chains.proofs.Steps.{part-end-le}
 use Rattle.blocks.specs.declared.Head.{Head}
-use Rattle.blocks.specs.Fields.{place, headOf}
+use Rattle.blocks.specs.Fields.{place, linkOf, headOf}
 use Rattle.chains.specs.Chains.{partEnd, badHead, isWhole}
 use Rattle.chains.proofs.Laws.{chain-bad}
 use Rattle.chains.proofs.Counting.{before, Entering, start, not-begun, Read, block-read, tail-ended, tail-broken, part-broken, none-left, unlinked, next-entering}
@@ -20,10 +20,10 @@ use Rattle.chains.proofs.is_sound.Statement.{statement}
 use Rattle.chains.proofs.is_sound.Tie as tie
 
 abbrev Inv-loop : tie.InvT-loop
-Inv-loop arena used reports h d b₀ at₀ base₀ last₀ n₀ left₀ b at base last n left = Entering arena used reports h d (before d b at last left) base n
+Inv-loop arena used reports h d b₀ next₀ at₀ base₀ last₀ n₀ left₀ b next at base last n left = Entering arena used reports h d (before d b at last left) base n × (next ≡ linkOf arena b)
 
 abbrev μ-loop : tie.MeasureT-loop
-μ-loop arena used reports h d b₀ at₀ base₀ last₀ n₀ left₀ b at base last n left = left
+μ-loop arena used reports h d b₀ next₀ at₀ base₀ last₀ n₀ left₀ b next at base last n left = left
 
 -- the length of the term is a byte
 short : (c : tie.After-head-of Inv-loop μ-loop) → c .head-of .result .length < 256
@@ -49,16 +49,23 @@ returns : tie.Need-returns Inv-loop μ-loop
 unfolding isWhole
 returns c = sym (ap isWhole (chain-bad _ _ _ _ (judged (c .before) ∙ c .if1 .taken)))
 
+link-of-requires : tie.Need-link-of-requires Inv-loop μ-loop
+link-of-requires c κs = omega arith
+
 add-at : tie.Need-add-at Inv-loop μ-loop
-add-at c = omega (arith, short (c .before .before .before))
+add-at c = omega (arith, short (c .before .before .before .before))
 
 sub-left : tie.Need-sub-left Inv-loop μ-loop
 sub-left c = omega arith
 
 loop-holds : tie.Need-loop-holds Inv-loop μ-loop
 loop-holds c =
-    let s = c .before .before .before .before .before in
-    rw (c .before .before .before .head-of .ensures) (start _ _ _ _ (s .pre .0) (s .pre .1) (judged (c .before .before) ∙ c .before .if1 .left))
+    let e = c .before .before in
+    let s = e .before .before .before .before in
+    (rw (e .before .before .head-of .ensures) (start _ _ _ _ (s .pre .0) (s .pre .1) (judged (e .before) ∙ e .if1 .left)), c .before .link-of .ensures)
+
+link-ahead-requires : tie.Need-link-ahead-requires Inv-loop μ-loop
+link-ahead-requires c κs = omega arith
 
 end-in-requires : tie.Need-end-in-requires Inv-loop μ-loop
 end-in-requires c κs = search needs
@@ -66,29 +73,30 @@ end-in-requires c κs = search needs
 -- a turn
 module _ (l : tie.At-loop Inv-loop μ-loop) where
   abbrev s : tie.Start Inv-loop μ-loop
-  s = l .before .before .before .before .before .before
+  s = l .before .before .before .before .before .before .before
 
   abbrev d : Head
-  d = l .before .before .before .before .head-of .result
+  d = l .before .before .before .before .before .head-of .result
 
   abbrev k : Cursor
   k = before d (l .loop .b) (l .loop .at) (l .loop .last) (l .loop .left)
 
   inside : place (l .loop .b) + 64 ≤ length (now (s .args .arena))
-  inside = let f = l .loop .inv .follows in omega (arith, f .inside, f .in-use)
+  inside = let f = l .loop .inv .0 .follows in omega (arith, f .inside, f .in-use)
 
-is-end : (c : tie.After-end-in Inv-loop μ-loop) → c .end-in .result ≡ partEnd (k (c .before)) (c .before .loop .b)
+is-end : (c : tie.After-end-in Inv-loop μ-loop) → c .end-in .result ≡ partEnd (k (c .before .before)) (c .before .before .loop .b)
 unfolding partEnd
 is-end c = c .end-in .ensures
 
 read-part-requires : tie.Need-read-part-requires Inv-loop μ-loop
 read-part-requires c κs =
-    let l = c .before in
-    let i = l .loop .inv in
-    (omega (arith, inside l, is-end c, part-end-le (k l) (l .loop .b) (i .follows .end-in)), i .low)
+    let l = c .before .before in
+    let i = l .loop .inv .0 in
+    let e = part-end-le (k l) (l .loop .b) (i .follows .end-in) in
+    (omega (arith, inside l, is-end c, e), i .low, omega (arith, is-end c, e))
 
 returns-2 : tie.Need-returns-2 Inv-loop μ-loop
-returns-2 c = let q = c .before .before in sym (not-begun (q .before .before .loop .inv) (is-end (q .before)) (q .read-part .ensures) (c .if2 .taken))
+returns-2 c = let q = c .before .before in sym (not-begun (q .before .before .before .loop .inv .0) (is-end (q .before)) (q .read-part .ensures) (c .if2 .taken))
 
 -- a block was read
 module _ (c : tie.Else2 Inv-loop μ-loop) where
@@ -96,10 +104,10 @@ module _ (c : tie.Else2 Inv-loop μ-loop) where
   q = c .before .before
 
   abbrev l : tie.At-loop Inv-loop μ-loop
-  l = q .before .before
+  l = q .before .before .before
 
   read : Read (now (s l .args .arena)) (s l .args .used) (s l .args .reports) (s l .args .h) (d l) (l .loop .b) (l .loop .left) (l .loop .n) (q .read-part .result)
-  read = block-read (l .loop .inv) (is-end (q .before)) (q .read-part .ensures) (c .if2 .left)
+  read = block-read (l .loop .inv .0) (is-end (q .before)) (q .read-part .ensures) (c .if2 .left)
 
 add-n : tie.Need-add-n Inv-loop μ-loop
 add-n c = let w = read (c .before .before) .counted in omega (arith, w .few, w .within)
@@ -133,29 +141,31 @@ returns-7 c =
     let t = c .before .before .before in
     sym (part-broken (read (t .before .before .before .before)) (t .if3 .left) (sym (c .before .ends-at .ensures) ∙ not-true _ (c .if7 .taken)))
 
-link-of-requires : tie.Need-link-of-requires Inv-loop μ-loop
-link-of-requires c κs = inside (l (c .before .before .before .before .before .before .before))
-
 -- behind it comes another
 ends : (c : tie.Else7 Inv-loop μ-loop) → let q = c .before .before .before .before .before .before .before .before .before in
-    leb 64 (q .read-part .result .rest .at) || eqb (getD (now (s (q .before .before) .args .arena)) (place (q .before .before .loop .b) + q .read-part .result .rest .at) 0) 0 ≡ true
+    leb 64 (q .read-part .result .rest .at) || eqb (getD (now (s (q .before .before .before) .args .arena)) (place (q .before .before .before .loop .b) + q .read-part .result .rest .at) 0) 0 ≡ true
 ends c = sym (c .before .ends-at .ensures) ∙ not-false _ (c .if7 .left)
 
 returns-8 : tie.Need-returns-8 Inv-loop μ-loop
 returns-8 c =
-    let t = c .before .before .before .before .before in
-    sym (unlinked (read (t .before .before .before .before)) (t .if3 .left) (ends (c .before .before)) (c .before .link-of .ensures) (c .if8 .taken))
+    let t = c .before .before .before .before in
+    let w = t .before .before .before .before in
+    sym (unlinked (read w) (t .if3 .left) (ends (c .before)) (l w .loop .inv .1) (c .if8 .taken))
 
 sub-left-2 : tie.Need-sub-left-2 Inv-loop μ-loop
-sub-left-2 c = omega (arith, c .before .before .before .before .if6 .left)
+sub-left-2 c = omega (arith, c .before .before .before .if6 .left)
 
 loop-less : tie.Need-loop-less Inv-loop μ-loop
-loop-less c = omega (arith, c .before .before .before .before .if6 .left)
+loop-less c = omega (arith, c .before .before .before .if6 .left)
 
 loop-again : tie.Need-loop-again Inv-loop μ-loop
 loop-again c =
-    let t = c .before .before .before .before .before in
-    next-entering (read (t .before .before .before .before)) (t .if3 .left) (ends (c .before .before)) (c .before .link-of .ensures) (c .before .before .before .before .if6 .left) (c .if8 .left)
+    let t = c .before .before .before .before in
+    let w = t .before .before .before .before in
+    let next = l w .loop .next in (
+      next-entering (read w) (t .if3 .left) (ends (c .before)) (l w .loop .inv .1) (c .before .before .before .if6 .left) (c .if8 .left),
+      q w .before .before .link-ahead .ensures ∙ rw (lt-ltb next (s (l w) .args .used) (c .if8 .left)),
+    )
 
 pub is-sound-spec : {M : Type 1} → statement M
 is-sound-spec =
@@ -166,9 +176,11 @@ is-sound-spec =
     head-of-requires
     is-bad-head-requires
     returns
+    link-of-requires
     add-at
     sub-left
     loop-holds
+    link-ahead-requires
     end-in-requires
     read-part-requires
     returns-2
@@ -180,7 +192,6 @@ is-sound-spec =
     returns-6
     ends-at-requires
     returns-7
-    link-of-requires
     returns-8
     sub-left-2
     loop-less

@@ -7,7 +7,7 @@ use mathlib.Core.Path.{_≡_, refl, sym, ap, _∙_}
 use mathlib.Core.List.{List}
 use Prim.Native.Nat.{ℕ, _+_, _-_}
 use native.Mathlib.Omega.{arith}
-use lib.ListN.{take, drop, length-drop}
+use lib.ListN.{take, drop, length-take, length-drop}
 use denote.Ref.{now}
 use Rattle.postings.specs.Coding.{decoded}
 use Rattle.postings.specs.declared.Decoded.{Decoded}
@@ -74,23 +74,23 @@ sub-if2 c = search needs
 add-first : tie.Need-add-first
 add-first c = search needs
 
-add-pass : tie.Need-add-pass
-add-pass c =
+add-pass-all : tie.Need-add-pass-all
+add-pass-all c =
     let v = c .before .before in
     let d = v .before .before in
     let p = d .before .before in
     let w = decoded-within (drop (s p .args .at) (bytes p)) (read d _ (v .gap .given .1)) in
     omega (arith, d .before .if1 .taken, simp length-drop at (w .1))
 
-pass-requires : tie.Need-pass-requires
-pass-requires c κs = search needs
+pass-all-requires : tie.Need-pass-all-requires
+pass-all-requires c κs = (search needs, simp length-take (omega arith))
 
 returns : tie.Need-returns
 returns c =
     let v = c .before .before .before in
     let d = v .before .before in
     let p = d .before .before in
-    same p _ (read-some (bytes p) _ _ _ (read d _ (v .gap .given .1)) (omega (arith, c .before .if2 .taken, s p .pre .1)) ∙ ap (λ (x : Passed). record { first = s p .args .base + v .gap .given .0 .0; rest = x }) (sym (c .pass .ensures)))
+    same p _ (read-some (bytes p) _ _ _ (read d _ (v .gap .given .1)) (omega (arith, c .before .if2 .taken, s p .pre .1)) ∙ ap (λ (x : Passed). record { first = s p .args .base + v .gap .given .0 .0; rest = x }) (sym (c .pass-all .ensures)))
 
 returns-2 : tie.Need-returns-2
 returns-2 c = let d = c .before .before in let p = d .before .before in same p _ (read-none (bytes p) _ _ _ (read d code.Rejected (c .enum-told .given .1)))
@@ -119,8 +119,8 @@ read-part-spec =
     enum-known-gap
     sub-if2
     add-first
-    add-pass
-    pass-requires
+    add-pass-all
+    pass-all-requires
     returns
     returns-2
     returns-3
