@@ -1,7 +1,7 @@
--- Where a line goes: what its place says of the term's head, or of the slot for a new one.
+-- Where a line goes: what its place says of the term's head.
 -- Assumes nothing.
 use mathlib.Core.Path.{_≡_, refl, sym}
-use mathlib.Core.Bool.{Bool, true, false}
+use mathlib.Core.Bool.{Bool, true, false, cond}
 use mathlib.Core.List.{List, map}
 use Prim.Native.Nat.{ℕ, _≤_, _<_}
 use native.Mathlib.Omega.{arith}
@@ -18,12 +18,11 @@ use Rattle.chains.proofs.Laws.{Good, head-good}
 use Rattle.lookup.specs.declared.Found.{Found}
 use Rattle.lookup.specs.declared.Found.the-variants as found
 use Rattle.lookup.specs.Lookup.{search as sought}
-use Rattle.lookup.proofs.Search.{Stands, search-at}
+use Rattle.lookup.proofs.Search.{search-at}
 use Rattle.counters.specs.declared.Counters.{Counters}
 use Rattle.counters.specs.Counters.{Memory}
-use Rattle.ingest.specs.declared.Place.{Place}
-use Rattle.ingest.specs.declared.Place.the-variants.{Damaged, New, Stays, Spills}
-use Rattle.ingest.specs.Report.{nextNumber, lineOf, damagedHead, placeAt, placed, placeOf}
+use Rattle.ingest.specs.declared.Place.the-variants.{Damaged, Stays, Spills}
+use Rattle.ingest.specs.Report.{nextNumber, lineOf, damagedHead, placeAt, placed, placeOf, termsFor}
 use Rattle.ingest.specs.Needs.{Room, Below}
 
 -- ---- a known term's head
@@ -74,41 +73,17 @@ module _ (a : List ℕ) (k : Counters) (f h : ℕ) where
     unfolding placeAt
     at-spills q = rw (e, q)
 
--- ---- what a place says
+-- its line brings no term more
+pub at-terms : (a : List ℕ) (k : Counters) (f h : ℕ) → termsFor (placeAt a k f h) ≡ 0
+unfolding placeAt termsFor
+at-terms a k f h = go (damagedHead a k h (headOf a h)) (fits (headOf a h) (nextNumber k) f)
+  where
+    go : (x b : Bool) → termsFor (cond x Damaged (cond b (Stays h) (Spills h))) ≡ 0
+    go true b = refl
+    go false true = refl
+    go false false = refl
 
--- a known term's head h, and whether the posting fits there
-pub record Known (a : List ℕ) (k : Counters) (w : List ℕ) (f h : ℕ) (fit : Bool) : Type 0 where
-  pub stands : Stands a (k .used) w h
-  pub fine : Fine a k h (headOf a h)
-  pub fitting : fits (headOf a h) (nextNumber k) f ≡ fit
-
-module _ (a table : List ℕ) (k : Counters) (w : List ℕ) (f : ℕ) where
-  abbrev pub Seat : Place → Type 0
-  Seat Damaged = Unit
-  Seat (New s) = sought a (k .used) table w ≡ found.Unknown s
-  Seat (Stays h) = Known a k w f h true
-  Seat (Spills h) = Known a k w f h false
-
-  seat-at : (h : ℕ) → sought a (k .used) table w ≡ found.At h → Seat (placeAt a k f h)
-  seat-at h e = go (damagedHead a k h (headOf a h)) (fits (headOf a h) (nextNumber k) f) refl refl
-    where
-      known : (b : Bool) → damagedHead a k h (headOf a h) ≡ false → fits (headOf a h) (nextNumber k) f ≡ b → Known a k w f h b
-      known b p q = record { stands = search-at a (k .used) table w h e; fine = head-fine a k h (headOf a h) p; fitting = q }
-
-      go : (x b : Bool) → damagedHead a k h (headOf a h) ≡ x → fits (headOf a h) (nextNumber k) f ≡ b → Seat (placeAt a k f h)
-      go true b p q = rw (at-damaged a k f h p) tt
-      go false true p q = rw (at-stays a k f h p q) (known true p q)
-      go false false p q = rw (at-spills a k f h p q) (known false p q)
-
-  seat-found : (r : Found) → sought a (k .used) table w ≡ r → Seat (placed a k f r)
-  unfolding placed
-  seat-found (found.At h) e = seat-at h e
-  seat-found (found.Unknown s) e = e
-  seat-found found.Damaged e = tt
-
-  -- of the place that a search leads to
-  pub seat : (p : Place) → p ≡ placed a k f (sought a (k .used) table w) → Seat p
-  seat p e = rw e (seat-found (sought a (k .used) table w) refl)
+-- ---- what a search finds
 
 -- a head that a search finds is a used block
 pub found-below : (a : List ℕ) (used : ℕ) (table w : List ℕ) {x : Found} → x ≡ sought a used table w → Below used x

@@ -1,6 +1,6 @@
 -- What lines need together: the plan from line to line, and refusals 10 to 12.
 -- Assumes nothing.
-use mathlib.Core.Path.{_≡_, sym, _∙_}
+use mathlib.Core.Path.{_≡_, refl, sym, _∙_}
 use mathlib.Core.Bool.{true, false, _||_, or-true, or-false, or-assoc}
 use mathlib.Core.List.{List, [], _∷_, map}
 use Prim.Native.Nat.{ℕ, _+_, _-_, _≤_, _<_}
@@ -92,18 +92,17 @@ blocks-le (New s) = omega arith
 blocks-le (Stays h) = omega arith
 blocks-le (Spills h) = omega arith
 
--- so a line that passes alone finds a block, and a new term a slot, where its place needs one
-module _ (m : Memory) where
-  pub spill-room : (h : ℕ) → firstOf (planRows m (planOf (Spills h ∷ []))) ≡ 0 → m .counters .used < capacity (m .arena)
-  unfolding planOf total blocksFor
-  spill-room h z = omega (arith, passed m (planOf (Spills h ∷ [])) z .blocks)
-
-  pub new-room : (s : ℕ) → firstOf (planRows m (planOf (New s ∷ []))) ≡ 0
-      → (m .counters .used < capacity (m .arena)) × (m .counters .terms < maxTerms (m .table))
+-- a new term needs a block and a slot, and no more
+module _ (m : Memory) (s : ℕ) where
+  pub new-room : firstOf (planRows m (planOf (New s ∷ []))) ≡ 0 → (m .counters .used < capacity (m .arena)) × (m .counters .terms < maxTerms (m .table))
   unfolding planOf total termsFor blocksFor
-  new-room s z =
+  new-room z =
       let w = passed m (planOf (New s ∷ [])) z in
       (omega (arith, w .blocks), omega (arith, w .terms))
+
+  pub new-passes : m .counters .used < capacity (m .arena) → m .counters .terms < maxTerms (m .table) → firstOf (planRows m (planOf (New s ∷ []))) ≡ 0
+  unfolding planOf total isDamaged any termsFor blocksFor
+  new-passes u t = plan-none m (planOf (New s ∷ [])) refl (omega arith) (omega arith)
 
 -- a plan with a line more, by its place
 module _ (n : Plan) where
@@ -143,14 +142,6 @@ onto n (p ∷ ps) =
 pub plan-onto : (ps : List Place) → withPlaces noPlan ps ≡ planOf ps
 unfolding planOf
 plan-onto ps = onto noPlan ps ∙ rw (zero-add (total termsFor ps), zero-add (total blocksFor ps))
-
-plan-one : (p : Place) → withPlace noPlan p ≡ planOf (p ∷ [])
-unfolding withPlaces
-plan-one p = plan-onto (p ∷ [])
-
--- so the plan of one line, judged, gives the refusal that the line meets alone
-pub judged-alone : (m : Memory) (p : Place) {n : Plan} {r : ℕ} → n ≡ withPlace noPlan p → r ≡ firstOf (planRows m n) → firstOf (planRows m (planOf (p ∷ []))) ≡ r
-judged-alone m p e q = rw (q, e, plan-one p)
 
 -- the plan of the lines before an offset, with those from there on
 pub record Planned (m : Memory) (f : List ℕ) (plan : Plan) (at : ℕ) : Type 0 where

@@ -1,16 +1,18 @@
 // Taking a report (document 01, "Taking a report"): all lines are judged before a byte is written.
 ghost use mathlib.Core.Path.{_≡_};
-ghost use Prim.Native.Nat.{_+_, _≤_, _<_};
+ghost use mathlib.Core.List.{List};
+ghost use Prim.Native.Nat.{ℕ, _+_, _≤_, _<_};
 ghost use lib.ListN.{length};
 ghost use Rattle.terms.specs.Terms.{maxTerm, fnv1a};
 ghost use Rattle.frames.specs.Frames.{maxBody, lines, reportRefusal, reportLines};
 ghost use Rattle.frames.specs.Read.{Read};
 ghost use Rattle.frames.specs.Refusals.{firstOf};
 ghost use Rattle.blocks.specs.Fields.{maxWord};
-ghost use Rattle.lookup.specs.Lookup.{search};
+ghost use Rattle.lookup.specs.Lookup.{slots};
 ghost use Rattle.counters.specs.Counters.{memory};
-ghost use Rattle.ingest.specs.Report.{lineOf, wroteAs, damagedHead, placeAt, placed, planRows, linesPlan, written, writeLines, callRefusal, reportCall, takenOf};
-ghost use Rattle.ingest.specs.Needs.{Room, Below, Held, Writable, withPlace, refusedWith};
+ghost use Rattle.ingest.specs.Report.{lineOf, wroteAs, damagedHead, placeAt, placed, placeOf, planRows, linesPlan, writeLines, callRefusal, reportCall, takenOf};
+ghost use Rattle.ingest.specs.Needs.{Room, Below, Held, withPlace, writeOne, appendOne, refusedWith};
+ghost use Rattle.ingest.specs.declared.Place.the-variants.{New};
 use blocks::Head;
 use counters::Counters;
 use frames::Cursor;
@@ -93,14 +95,6 @@ fn place_found(arena: &[u8], k: Counters, found: Found, count: u32) -> Place
         Found::Unknown(s) => Place::New(s),
         Found::At(h) => place_at(arena, k, count, h),
     }
-}
-
-fn place_of(arena: &[u8], table: &[u32], k: Counters, name: &[u8], hash: u32, count: u32) -> Place
-    requires { ⌜ Room (now arena) k × (length (now name) ≤ maxTerm) × (hash ≡ fnv1a (now name)) ⌝ }
-    ensures { λ r. ⌜ r ≡ placed (now (arena .entry)) k count (search (now (arena .entry)) (k .used) (now (table .entry)) (now (name .entry))) ⌝ }
-{
-    let found = lookup::find(arena, k.used, table, name, hash);
-    place_found(arena, k, found, count)
 }
 
 // ---- what the lines need
@@ -191,45 +185,102 @@ fn judge(arena: &[u8], table: &[u32], k: Counters, plan: Plan) -> u8
 
 // ---- writing
 
-// One line at its place.
-fn write_line(
+// A line of a known term, judged afresh: its posting goes into the tail, or where it does not fit there into the next block. The head that is
+// judged is the one that is written to, so it is read once.
+fn append_line(arena: &mut [u8], k: Counters, h: u32, count: u32) -> Written
+    requires { ⌜ Room (now arena) k × (h < k .used) ⌝ }
+    ensures { λ r. ⌜ ((t w : List ℕ) → wroteAs (memory (now (arena .exit)) t (r .counters)) (r .stopped) ≡ appendOne (memory (now (arena .entry)) t k) (k .reports + 1) (lineOf w count) (placeAt (now (arena .entry)) k count h)) ⌝ }
+{
+    let number = k.reports + 1;
+    let used = k.used;
+    let d = blocks::head_of(arena, h);
+    if is_damaged(arena, k, h, d) {
+        return Written {
+            stopped: true,
+            counters: k,
+        };
+    }
+    if blocks::fits_in(d, number, count) {
+        blocks::add_to(arena, h, d, number, count);
+        return Written {
+            stopped: false,
+            counters: k,
+        };
+    }
+    if blocks::capacity_of(arena) == used {
+        return Written {
+            stopped: true,
+            counters: k,
+        };
+    }
+    blocks::join_to(arena, h, d, used, number, count);
+    Written {
+        stopped: false,
+        counters: Counters {
+            used: used + 1,
+            terms: k.terms,
+            reports: k.reports,
+        },
+    }
+}
+
+// A line of a new term, judged afresh: its head, entered into the empty slot met. Where the table has no slot none was met, and no term may be held.
+fn open_line(
     arena: &mut [u8],
     table: &mut [u32],
     k: Counters,
     name: &[u8],
     count: u32,
-    p: Place,
-) -> Counters
-    requires { ⌜ Writable (now arena) (now table) k (now name) count p ⌝ }
-    ensures { λ r. ⌜ memory (now (arena .exit)) (now (table .exit)) r ≡ written (memory (now (arena .entry)) (now (table .entry)) k) (k .reports + 1) (lineOf (now (name .entry)) count) p ⌝ }
+    slot: u32,
+) -> Written
+    requires { ⌜ Room (now arena) k × (length (now name) ≤ maxTerm) × (0 < slots (now table) → slot < slots (now table)) ⌝ }
+    ensures { λ r. ⌜ wroteAs (memory (now (arena .exit)) (now (table .exit)) (r .counters)) (r .stopped) ≡ writeOne (memory (now (arena .entry)) (now (table .entry)) k) (k .reports + 1) (lineOf (now (name .entry)) count) (New slot) ⌝ }
 {
     let number = k.reports + 1;
     let used = k.used;
-    match p {
-        Place::Damaged => k,
-        Place::Stays(h) => {
-            let d = blocks::head_of(arena, h);
-            blocks::add_to(arena, h, d, number, count);
-            k
-        }
-        Place::Spills(h) => {
-            let d = blocks::head_of(arena, h);
-            blocks::join_to(arena, h, d, used, number, count);
-            Counters {
-                used: used + 1,
-                terms: k.terms,
-                reports: k.reports,
-            }
-        }
-        Place::New(s) => {
-            blocks::open_head(arena, used, name, number, count);
-            lookup::enter_at(table, s, used);
-            Counters {
-                used: used + 1,
-                terms: k.terms + 1,
-                reports: k.reports,
-            }
-        }
+    if counters::max_terms(table) <= k.terms {
+        return Written {
+            stopped: true,
+            counters: k,
+        };
+    }
+    if blocks::capacity_of(arena) == used {
+        return Written {
+            stopped: true,
+            counters: k,
+        };
+    }
+    blocks::open_head(arena, used, name, number, count);
+    lookup::enter_at(table, slot, used);
+    Written {
+        stopped: false,
+        counters: Counters {
+            used: used + 1,
+            terms: k.terms + 1,
+            reports: k.reports,
+        },
+    }
+}
+
+// One line, judged afresh when its turn comes.
+fn write_line(
+    arena: &mut [u8],
+    table: &mut [u32],
+    k: Counters,
+    name: &[u8],
+    hash: u32,
+    count: u32,
+) -> Written
+    requires { ⌜ Held (now arena) (now table) k × (length (now name) ≤ maxTerm) × (hash ≡ fnv1a (now name)) ⌝ }
+    ensures { λ r. ⌜ wroteAs (memory (now (arena .exit)) (now (table .exit)) (r .counters)) (r .stopped) ≡ writeOne (memory (now (arena .entry)) (now (table .entry)) k) (k .reports + 1) (lineOf (now (name .entry)) count) (placeOf (memory (now (arena .entry)) (now (table .entry)) k) (lineOf (now (name .entry)) count)) ⌝ }
+{
+    match lookup::find(arena, k.used, table, name, hash) {
+        Found::Damaged => Written {
+            stopped: true,
+            counters: k,
+        },
+        Found::Unknown(slot) => open_line(arena, table, k, name, count, slot),
+        Found::At(h) => append_line(arena, k, h, count),
     }
 }
 
@@ -252,22 +303,11 @@ fn write_lines(
         let hash = hashes[n];
         let name = c.name(frame, names);
         let count = c.count(frame);
-        let p = place_of(arena, table, left, name, hash, count);
-        let plan = with_place(
-            Plan {
-                damaged: false,
-                terms: 0,
-                blocks: 0,
-            },
-            p,
-        );
-        if judge(arena, table, left, plan) != 0 {
-            return Written {
-                stopped: true,
-                counters: left,
-            };
+        let w = write_line(arena, table, left, name, hash, count);
+        if w.stopped {
+            return w;
         }
-        left = write_line(arena, table, left, name, count, p);
+        left = w.counters;
         n += 1;
         c = c.past(frame, 4);
     }

@@ -1,23 +1,19 @@
 -- `ingest::write_lines` meets its contract: writing the lines that are left, onto what those before left, is writing all (`Wrote`).
 -- Assumes nothing.
-use mathlib.Core.Path.{_≡_, sym, _∙_}
-use mathlib.Core.List.{List, [], _∷_}
+use mathlib.Core.Path.{_≡_}
+use mathlib.Core.List.{List}
 use Prim.Native.Nat.{ℕ, _+_, _-_, _≤_, _<_}
 use native.Mathlib.Omega.{arith}
 use denote.Ref.{now}
 use lib.ListN.{length}
-use Rattle.terms.specs.Terms.{maxTerm}
-use Rattle.frames.specs.Refusals.{firstOf}
 use Rattle.frames.specs.Frames.{maxBody, countBytes, lineAt}
 use Rattle.frames.specs.Read.{Hashed}
 use Rattle.frames.proofs.Fields.{past-more, field-term}
 use Rattle.frames.proofs.Read.{hash-here, hash-in, hash-on}
 use Rattle.frames.proofs.Laws.{sound-report, sound-field, sound-name}
-use Rattle.counters.specs.Counters.{Memory, memory}
-use Rattle.ingest.specs.Report.{placeOf, planOf, planRows}
-use Rattle.ingest.specs.Needs.{withPlace}
-use Rattle.ingest.proofs.Places.{read-place, read-line}
-use Rattle.ingest.proofs.Plans.{terms-le, judged-alone}
+use Rattle.counters.specs.Counters.{memory}
+use Rattle.ingest.specs.Report.{lineOf}
+use Rattle.ingest.proofs.Places.{read-line}
 use Rattle.ingest.proofs.Writing.{Wrote, wrote-none, wrote-end, wrote-stop, wrote-more}
 use Rattle.ingest.proofs.write_lines.Statement.{statement}
 use Rattle.ingest.proofs.write_lines.Tie as tie
@@ -49,9 +45,6 @@ module _ (c : tie.Then1 Inv-loop μ-loop) where
   abbrev at : ℕ
   at = l .loop .c .at
 
-  abbrev m : Memory
-  m = memory (l .loop .arena) (l .loop .table) (l .loop .left)
-
   small : at < maxBody + 3
   small = omega (arith, sound-report frame (s .pre .1) .short, c .if1 .taken)
 
@@ -69,95 +62,59 @@ name-requires c κs =
 count-requires : tie.Need-count-requires Inv-loop μ-loop
 count-requires c κs = let t = c .before .before in sound-field (l t .loop .inv .0 .sound) (t .if1 .taken)
 
--- its folded term is short
-short : (c : tie.After-name Inv-loop μ-loop) → length (now (c .name .result)) ≤ maxTerm
-short c = let t = c .before .before in rw (c .name .ensures) (sound-name (l t .loop .inv .0 .sound) (t .if1 .taken))
-
-place-of-requires : tie.Need-place-of-requires Inv-loop μ-loop
-place-of-requires c κs =
+write-line-requires : tie.Need-write-line-requires Inv-loop μ-loop
+write-line-requires c κs =
     let f = c .before .before .before in
     let t = f .before .before in
-    (l t .loop .inv .0 .held .room, short f, rw (f .name .ensures) (hash-here (frame t) (at t) (l t .loop .inv .1) (t .if1 .taken)))
+    rw (f .name .ensures)
+    (l t .loop .inv .0 .held, sound-name (l t .loop .inv .0 .sound) (t .if1 .taken), hash-here (frame t) (at t) (l t .loop .inv .1) (t .if1 .taken))
 
--- its place
-module _ (c : tie.After-place-of Inv-loop μ-loop) where
+-- the line that was written, or stopped
+module _ (c : tie.After-slice-known4 Inv-loop μ-loop) where
+  abbrev w : tie.After-write-line Inv-loop μ-loop
+  w = c .before .before .before .before
+
   abbrev n : tie.After-count Inv-loop μ-loop
-  n = c .before .before .before
-
-  abbrev f : tie.After-name Inv-loop μ-loop
-  f = n .before
+  n = w .before .before .before
 
   abbrev t : tie.Then1 Inv-loop μ-loop
-  t = f .before .before
+  t = n .before .before .before
 
-  place-is : c .place-of .result ≡ placeOf (m t) (lineAt (frame t) (at t))
-  place-is = c .place-of .ensures ∙ read-place (frame t) (at t) (f .name .ensures) (n .count .ensures) (m t)
-
-with-place-requires : tie.Need-with-place-requires Inv-loop μ-loop
-with-place-requires c κs = omega arith
-
-judge-requires : tie.Need-judge-requires Inv-loop μ-loop
-unfolding withPlace
-judge-requires c κs =
-    let w = c .before .before in
-    let p = w .before in
-    (l (t p) .loop .inv .0 .held, rw (w .with-place .ensures) (omega (arith, terms-le (p .place-of .result))))
-
--- the refusal that it meets alone
-module _ (c : tie.After-judge Inv-loop μ-loop) where
-  abbrev p : tie.After-place-of Inv-loop μ-loop
-  p = c .before .before .before .before
-
-  alone-is : firstOf (planRows (m (t p)) (planOf (p .place-of .result ∷ []))) ≡ c .judge .result
-  alone-is = judged-alone (m (t p)) (p .place-of .result) (c .before .before .before .with-place .ensures) (c .judge .ensures)
+  line-is : lineOf (now (n .before .name .result)) (n .count .result) ≡ lineAt (frame t) (at t)
+  line-is = read-line (frame t) (at t) (n .before .name .ensures) (n .count .ensures)
 
 same-length : tie.Need-same-length Inv-loop μ-loop
-same-length c = l (t (p (c .before))) .loop .inv .0 .arena
+same-length c = omega (arith, c .before .before .before .before .arena .given, l (t (c .before)) .loop .inv .0 .arena)
 
 same-length-2 : tie.Need-same-length-2 Inv-loop μ-loop
-same-length-2 c = l (t (p (c .before))) .loop .inv .0 .table
+same-length-2 c = omega (arith, c .before .before .table .given, l (t (c .before)) .loop .inv .0 .table)
 
 returns : tie.Need-returns Inv-loop μ-loop
 returns c =
-    let j = c .before in
-    let i = t (p j) in
-    wrote-stop (l i .loop .inv .0) (i .if1 .taken) (place-is (p j)) (λ e. c .if2 .taken (sym (alone-is j) ∙ e))
-
-write-line-requires : tie.Need-write-line-requires Inv-loop μ-loop
-write-line-requires c κs =
-    let e = c .before .before in
-    let j = e .before in
-    record {
-      held = l (t (p j)) .loop .inv .0 .held;
-      short = short (f (p j));
-      found = p j .place-of .ensures;
-      judged = alone-is j ∙ e .if2 .left;
-    }
+    let i = c .before in
+    wrote-stop (l (t i) .loop .inv .0) (t i .if1 .taken) (line-is i) (w i .write-line .ensures) (c .if2 .taken)
 
 add-n : tie.Need-add-n Inv-loop μ-loop
-add-n c = let i = t (p (c .before .before .before .before .before .before .before .before)) in omega (arith, l i .loop .inv .2, small i)
+add-n c = let i = t (c .before .before) in omega (arith, l i .loop .inv .2, small i)
 
 past-requires : tie.Need-past-requires Inv-loop μ-loop
-past-requires c κs = let j = c .before .before .before .before .before .before .before .before in (t (p j) .if1 .taken, omega arith)
+past-requires c κs = (t (c .before .before) .if1 .taken, omega arith)
 
 loop-less : tie.Need-loop-less Inv-loop μ-loop
 loop-less c =
-    let j = c .before .before .before .before .before .before .before .before .before in
-    let i = t (p j) in
+    let i = t (c .before .before .before) in
     omega (arith, c .past .ensures, past-more countBytes (frame i) (at i), i .if1 .taken)
 
 loop-again : tie.Need-loop-again Inv-loop μ-loop
 loop-again c =
-    let w = c .before .before .before .before .before in
-    let e = w .before .before .before in
-    let j = e .before in
-    let i = t (p j) in
-    let line = read-line (frame i) (at i) (f (p j) .name .ensures) (n (p j) .count .ensures) in
-    let h = i .if1 .taken in
+    let e = c .before .before in
+    let i = e .before in
+    let v = l (t i) .loop .inv in
+    let h = t i .if1 .taken in
     rw (c .past .ensures) (
-      wrote-more (l i .loop .inv .0) h (place-is (p j)) (alone-is j ∙ e .if2 .left) line (w .write-line .ensures),
-      hash-on (frame i) (at i) (l i .loop .inv .1) h,
-      omega (arith, l i .loop .inv .2, past-more countBytes (frame i) (at i)),
+      wrote-more (v .0) h (line-is i) (w i .write-line .ensures) (e .if2 .left),
+      hash-on (frame (t i)) (at (t i)) (v .1) h,
+      omega (arith, v .2, past-more countBytes (frame (t i)) (at (t i))),
     )
 
 same-length-3 : tie.Need-same-length-3 Inv-loop μ-loop
@@ -180,13 +137,10 @@ write-lines-spec =
     shared-slice-read-hash
     name-requires
     count-requires
-    place-of-requires
-    with-place-requires
-    judge-requires
+    write-line-requires
     same-length
     same-length-2
     returns
-    write-line-requires
     add-n
     past-requires
     loop-less
