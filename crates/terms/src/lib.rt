@@ -343,17 +343,17 @@ pub fn fold(s: &[u8], into: &mut [u8])
     }
 }
 
-// Judges folded bytes and takes their hash in one pass. A barred byte is folded to 0.
+// Judges folded bytes and takes their hash in one pass. A barred byte is folded to 0, so that the least byte tells whether there is one.
 pub fn judge(name: &[u8]) -> Judged
     ensures { λ r. ⌜ r ≡ judgedAs (now (name .entry)) ⌝ }
 {
     let mut hash: u32 = 2166136261;
-    let mut allowed = true;
+    let mut least: u8 = 255;
     let mut i: usize = 0;
     while i < name.len() {
         let b = name[i];
-        if b == 0 {
-            allowed = false;
+        if b < least {
+            least = b;
         }
         hash = mix(hash, b);
         i += 1;
@@ -362,7 +362,7 @@ pub fn judge(name: &[u8]) -> Judged
         return Judged { term: false, hash };
     }
     Judged {
-        term: allowed,
+        term: 0 < least,
         hash,
     }
 }

@@ -4,14 +4,15 @@ use mathlib.Core.Path.{_≡_, refl, ap, _∙_}
 use mathlib.Core.Bool.{Bool, true, false, _&&_}
 use mathlib.Core.Logic.{_⊎_, inl, inr, ⊎-elim}
 use mathlib.Core.List.{List, []}
-use Prim.Native.Nat.{ℕ, _+_, _-_, _≤_}
+use Prim.Native.Nat.{ℕ, _+_, _-_, _≤_, _<_}
 use native.Mathlib.Omega.{arith}
 use borrow.Author.Needs.{needs}
-use borrow.Author.Tests.{lt-ltb, ltb-true, ltb-false}
+use borrow.Author.Tests.{lt-ltb, le-ltb, ltb-true, ltb-false}
 use lib.Dec.{ltb}
 use lib.ListN.{length, getD, drop, drop-of-length-le}
 use Rattle.basics.specs.Lists.{all}
-use Rattle.basics.proofs.Lists.{and-false, and-true, all-drop}
+use Rattle.basics.proofs.Cases.{by-lt}
+use Rattle.basics.proofs.Lists.{and-true, all-drop}
 use Rattle.terms.specs.Terms.{mixedAll, fnv1a, isName, judgedAs}
 use Rattle.terms.specs.declared.Judged.{Judged}
 use Rattle.terms.proofs.Laws.{mixedAll-more, isName-pos, isName-short, isName-long}
@@ -19,11 +20,11 @@ use Rattle.terms.proofs.judge.Statement.{statement}
 use Rattle.terms.proofs.judge.Tie as tie
 
 abbrev Inv-loop : tie.InvT-loop
-Inv-loop name hash₀ allowed₀ i₀ hash allowed i =
-    (i ≤ length name) × (fnv1a name ≡ mixedAll hash (drop i name)) × (all (ltb 0) name ≡ allowed && all (ltb 0) (drop i name))
+Inv-loop name hash₀ least₀ i₀ hash least i =
+    (i ≤ length name) × (fnv1a name ≡ mixedAll hash (drop i name)) × (all (ltb 0) name ≡ ltb 0 least && all (ltb 0) (drop i name))
 
 abbrev μ-loop : tie.MeasureT-loop
-μ-loop name hash₀ allowed₀ i₀ hash allowed i = length name - i
+μ-loop name hash₀ least₀ i₀ hash least i = length name - i
 
 loop-holds : tie.Need-loop-holds Inv-loop μ-loop
 unfolding fnv1a
@@ -41,14 +42,15 @@ add-i c = search needs
 loop-less : tie.Need-loop-less Inv-loop μ-loop
 loop-less c = omega arith
 
--- a byte that is not 0 leaves the judgement as it was, one that is 0 ends it
 kept : (a : Bool) (b : ℕ) (r : Bool) → a && (ltb 0 b && r) ≡ (a && ltb 0 b) && r
 kept true b r = refl
 kept false b r = refl
 
-judged : (a : Bool) (b : ℕ) (a′ : Bool) → ((b ≡ 0) × (a′ ≡ false)) ⊎ ((b ≡ 0 → ⊥) × (a′ ≡ a)) → a && ltb 0 b ≡ a′
-judged a b a′ (inl (z, e)) = rw (z, e) (and-false a)
-judged a b a′ (inr (n, e)) = rw (lt-ltb 0 b (omega (arith, n)), e) (and-true a)
+-- the least byte is over 0 where all are
+judged : (m b m′ : ℕ) → ((b < m) × (m′ ≡ b)) ⊎ ((m ≤ b) × (m′ ≡ m)) → ltb 0 m && ltb 0 b ≡ ltb 0 m′
+judged m b m′ (inl (h, e)) = rw (lt-ltb 0 m (omega arith), e)
+judged m b m′ (inr (h, e)) =
+    by-lt 0 m (λ p. rw (e, lt-ltb 0 m p, lt-ltb 0 b (omega arith))) (λ z. rw (e, le-ltb 0 m z))
 
 loop-again : tie.Need-loop-again Inv-loop μ-loop
 loop-again c =
@@ -58,7 +60,7 @@ loop-again c =
     let h = c .before .before .before .loop-test .taken in (
       omega arith,
       l .loop .inv .1 ∙ mixedAll-more (l .loop .hash) w i h ∙ rw (c .mix .ensures),
-      l .loop .inv .2 ∙ ap (λ (x : Bool). l .loop .allowed && x) (all-drop (ltb 0) w 0 i h) ∙ kept (l .loop .allowed) (getD w i 0) (all (ltb 0) (drop (i + 1) w)) ∙ ap (λ (x : Bool). x && all (ltb 0) (drop (i + 1) w)) (judged (l .loop .allowed) (getD w i 0) (c .before .if1 .allowed) (⊎-elim (λ v. inl (v .0 .taken, v .1)) (λ v. inr (v .0 .left, v .1)) (c .before .if1 .came))),
+      l .loop .inv .2 ∙ ap (λ (x : Bool). ltb 0 (l .loop .least) && x) (all-drop (ltb 0) w 0 i h) ∙ kept (ltb 0 (l .loop .least)) (getD w i 0) (all (ltb 0) (drop (i + 1) w)) ∙ ap (λ (x : Bool). x && all (ltb 0) (drop (i + 1) w)) (judged (l .loop .least) (getD w i 0) (c .before .if1 .least) (⊎-elim (λ v. inl (v .0 .taken, v .1)) (λ v. inr (v .0 .left, v .1)) (c .before .if1 .came))),
     )
 
 none-left : (a : Bool) (w : List ℕ) (i : ℕ) → length w ≤ i → a && all (ltb 0) (drop i w) ≡ a
@@ -91,7 +93,7 @@ returns-2 c =
     let l = c .before .before .before in
     let w = l .before .before .args .name .now in
     let e : l .loop .i ≡ length w = omega arith in
-    whole l e (isName-pos w (omega (arith, c .before .if2 .left)) (omega (arith, ltb-false)) ∙ l .loop .inv .2 ∙ none-left (l .loop .allowed) w (l .loop .i) (omega arith))
+    whole l e (isName-pos w (omega (arith, c .before .if2 .left)) (omega (arith, ltb-false)) ∙ l .loop .inv .2 ∙ none-left (ltb 0 (l .loop .least)) w (l .loop .i) (omega arith))
 
 pub judge-spec : {M : Type 1} → statement M
 judge-spec =
