@@ -48,11 +48,19 @@ fn measure(reports: usize) {
     let mut sides = [LIBRARY, PLAIN].map(|calls| Side::new(calls, blocks, SLOTS));
     let mut fts = Fts::new();
     println!("### {reports} reports, {} postings\n", workload.postings);
-    println!("| nanoseconds | library | plain Rust | library / plain Rust | of the medians | FTS5 | FTS5 / library |");
+    println!("| what | library | plain Rust | library / plain Rust | of the medians | FTS5 | FTS5 / library |");
     println!("|---|---|---|---|---|---|---|");
     measure_ingest(&workload, &mut sides, &mut fts);
     for queries in workload.queries() {
-        measure_queries(&workload, &queries, &sides, &mut fts);
+        let (times, parts, found) = measure_queries(&workload, &queries, &sides);
+        let name = format!("{}; {} found", queries.name, found / queries.places.len());
+        let fts = fts.query(&workload, &queries, found);
+        print_row(&name, MICROSECONDS, &times, parts, Some(fts));
+    }
+    for queries in workload.readings() {
+        let (times, parts, _) = measure_queries(&workload, &queries, &sides);
+        let name = format!("{} read for damage, nothing listed", queries.name);
+        print_row(&name, MICROSECONDS, &times, parts, None);
     }
     print_sizes(&workload, &sides[0]);
 }
@@ -68,11 +76,22 @@ fn measure_ingest(workload: &Workload, sides: &mut [Side; 2], fts: &mut Fts) {
     }
     sides[0].assert_same(&sides[1]);
     let fts = fts.ingest(workload);
-    print_row("a posting taken", &times, workload.postings, fts);
+    print_row(
+        "a posting taken",
+        NANOSECONDS,
+        &times,
+        workload.postings,
+        Some(fts),
+    );
 }
 
-/// Lists all queries of one kind, in alternating rounds.
-fn measure_queries(workload: &Workload, queries: &Queries, sides: &[Side; 2], fts: &mut Fts) {
+/// Lists all queries of one kind, in alternating rounds: the times of rounds of so many queries, and
+/// how many reports all queries of the kind find together.
+fn measure_queries(
+    workload: &Workload,
+    queries: &Queries,
+    sides: &[Side; 2],
+) -> ([Times; 2], usize, usize) {
     let frames = queries.frames(&workload.terms);
     let mut lists = Lists::new(workload.reports.len(), queries.are_of_one_term());
     let found = compare_results(sides, &frames, &mut lists);
@@ -87,9 +106,7 @@ fn measure_queries(workload: &Workload, queries: &Queries, sides: &[Side; 2], ft
             });
         }
     }
-    let fts = fts.query(workload, queries, found);
-    let name = format!("{}; {} found", queries.name, found / frames.len());
-    print_row(&name, &times, passes * frames.len(), fts);
+    (times, passes * frames.len(), found)
 }
 
 /// Fails unless both sides list the same; gives how many reports all queries find together.
@@ -120,14 +137,26 @@ fn passes(side: &Side, frames: &[Vec<u8>], lists: &mut Lists) -> usize {
     (QUERY_ROUND / time.best(1)).ceil() as usize
 }
 
+/// A unit of time: its name, its nanoseconds and the digits behind the point.
+type Unit = (&'static str, f64, usize);
+
+const NANOSECONDS: Unit = ("nanoseconds", 1.0, 1);
+
+const MICROSECONDS: Unit = ("microseconds", 1_000.0, 2);
+
 /// Writes one row: the best rounds, for one of so many parts.
-fn print_row(name: &str, times: &[Times; 2], parts: usize, fts: f64) {
+fn print_row(what: &str, unit: Unit, times: &[Times; 2], parts: usize, fts: Option<f64>) {
+    let (name, nanoseconds, digits) = unit;
     let [library, plain] = [times[0].best(parts), times[1].best(parts)];
     let medians = times[0].median(parts) / times[1].median(parts);
+    let shown = |time: f64| format!("{:.digits$}", time / nanoseconds);
+    let ratio = fts.map_or(String::new(), |fts| format!("{:.1}", fts / library));
     println!(
-        "| {name} | {library:.0} | {plain:.0} | {:.2} | {medians:.2} | {fts:.0} | {:.1} |",
+        "| {what}, {name} | {} | {} | {:.2} | {medians:.2} | {} | {ratio} |",
+        shown(library),
+        shown(plain),
         library / plain,
-        fts / library
+        fts.map_or(String::new(), shown),
     );
 }
 

@@ -19,17 +19,14 @@ pub const PLAIN: Calls = Calls {
 
 type Block = [u8; BLOCK_BYTES];
 
-/// The folded byte, or 0 for a barred one.
-static FOLDED: [u8; 256] = folded_bytes();
-
-const fn folded_bytes() -> [u8; 256] {
-    let mut table = [0; 256];
-    let mut byte = 0x21;
-    while byte <= 0x7E {
-        table[byte] = (byte as u8).to_ascii_lowercase();
-        byte += 1;
+/// The folded byte, or 0 for a barred one. A loop over this takes sixteen bytes at a time, one over
+/// a table only one.
+fn fold(byte: u8) -> u8 {
+    match byte {
+        b'A'..=b'Z' => byte + 32,
+        0x21..=0x7E => byte,
+        _ => 0,
     }
-    table
 }
 
 /// Starts an index.
@@ -137,7 +134,7 @@ fn check_head(frame: &[u8], kind: u8) -> Result<(), u8> {
 /// Reads the fields from `at` on in one pass: refusals 4 to 6. A field has `behind` bytes behind its
 /// term.
 fn read_lines(frame: &[u8], mut at: usize, behind: usize, most: usize) -> Result<Lines, u8> {
-    let mut folded = frame.to_vec();
+    let folded: Vec<u8> = frame.iter().map(|byte| fold(*byte)).collect();
     let mut lines = Vec::with_capacity(frame.len() / (2 + behind));
     let (mut bad_term, mut zero_count) = (false, false);
     while at < frame.len() {
@@ -148,14 +145,12 @@ fn read_lines(frame: &[u8], mut at: usize, behind: usize, most: usize) -> Result
         if at > frame.len() {
             return Err(4);
         }
-        let mut hash = 2_166_136_261u32;
-        for byte in &mut folded[from..to] {
-            let plain = FOLDED[usize::from(*byte)];
-            bad_term |= plain == 0;
-            *byte = plain;
-            hash = (hash ^ u32::from(plain)).wrapping_mul(16_777_619);
+        let (mut hash, mut least) = (2_166_136_261u32, u8::MAX);
+        for byte in &folded[from..to] {
+            least = least.min(*byte);
+            hash = (hash ^ u32::from(*byte)).wrapping_mul(16_777_619);
         }
-        bad_term |= length == 0 || length > 36;
+        bad_term |= least == 0 || length == 0 || length > 36;
         let count = if behind == 4 { word(frame, to) } else { 1 };
         zero_count |= count == 0;
         lines.push(Line {
@@ -306,6 +301,7 @@ fn take(
     }
     check_counters(blocks, table, counters)?;
     let number = counters.reports.checked_add(1).ok_or(9)?;
+    ask_ahead(blocks, table, counters, &read.lines);
     let (mut terms, mut needed) = (0, 0);
     for line in &read.lines {
         match place_of(blocks, table, counters, line, read.term(line)).ok_or(10)? {
@@ -320,6 +316,28 @@ fn take(
     }
     counters.reports = number;
     Ok(number)
+}
+
+/// Reads the first slot of every line, and then every head behind them, before the first line is
+/// looked up: these reads miss the caches, and in this way they overlap.
+fn ask_ahead(blocks: &[Block], table: &[u32], counters: &Counters, lines: &[Line]) {
+    let slots = slots(table);
+    if slots == 0 {
+        return;
+    }
+    let entry = |line: &Line| table[(line.hash % slots) as usize];
+    let entries: Vec<u32> = lines.iter().map(entry).collect();
+    let used = &blocks[..counters.used as usize];
+    let length = |entry: &u32| {
+        used.get((*entry).wrapping_sub(1) as usize)
+            .map_or(0, |head| head[17])
+    };
+    let any = entries
+        .iter()
+        .map(length)
+        .fold(0, |any: u8, byte| any | byte);
+    // Without a use the compiler would leave the reads out.
+    std::hint::black_box(any);
 }
 
 fn capacity(blocks: &[Block]) -> u32 {
@@ -411,7 +429,10 @@ fn place_of(
     if word(&blocks[head.tail as usize], 0) > reports {
         return None;
     }
-    if head.end + code_length(reports + 1 - head.last, line.count) <= BLOCK_BYTES {
+    // A code has at most 10 bytes, so that its length matters only near the block's end.
+    let fits = head.end <= BLOCK_BYTES - 10
+        || head.end + code_length(reports + 1 - head.last, line.count) <= BLOCK_BYTES;
+    if fits {
         return Some(Place::Stays(number, head));
     }
     Some(Place::Spills(number, head))
@@ -559,19 +580,24 @@ fn decode_value(part: &[u8], at: usize, most: u64) -> Option<(u64, usize)> {
 }
 
 /// Reads the chain of a head whole. Only the first number of a block can fall behind the last one of
-/// the block before, so that only there this is looked at.
+/// the block before, so that only there this is looked at. The link of the next block is read before
+/// the block at hand, so that the wait for it overlaps with the reading.
 fn is_sound(blocks: &[Block], used: u32, reports: u32, number: u32) -> bool {
+    let used_blocks = &blocks[..used as usize];
     let head = Head::of(&blocks[number as usize]);
     if !head.is_in_place(number, used) {
         return false;
     }
     let (mut at, mut b) = (18 + head.length, number);
+    let mut next = word(&blocks[number as usize], 0);
     let (mut first, mut last, mut postings) = (0, 0, 0);
     for _ in 0..used {
-        if b >= used {
+        let Some(block) = used_blocks.get(b as usize) else {
             return false;
-        }
-        let block = &blocks[b as usize];
+        };
+        let after = used_blocks
+            .get(next as usize)
+            .map_or(0, |block| word(block, 0));
         let is_tail = b == head.tail;
         let end = if is_tail { head.end } else { BLOCK_BYTES };
         let Some(read) = read_block(&block[..end], at, is_tail, first, reports) else {
@@ -585,7 +611,7 @@ fn is_sound(blocks: &[Block], used: u32, reports: u32, number: u32) -> bool {
         if is_tail {
             return postings == head.postings && last == head.last;
         }
-        (b, at) = (word(block, 0), 4);
+        (b, next, at) = (next, after, 4);
     }
     false
 }
@@ -598,28 +624,23 @@ struct Read {
 }
 
 /// Reads the part of one block from `at` on; its first gap counts from `base`. Nothing is given
-/// where it has no posting, a code is rejected or a number is over `reports`.
+/// where it has no posting, a code is rejected or a number is over `reports`, which the last number
+/// tells for all of them.
 fn read_block(part: &[u8], at: usize, is_tail: bool, base: u32, reports: u32) -> Option<Read> {
     if at >= part.len() {
         return None;
     }
     let (gap, _, mut at) = decode(part, at)?;
-    if gap > reports - base {
-        return None;
-    }
-    let first = base + gap;
+    let first = u64::from(base) + u64::from(gap);
     let (mut last, mut postings) = (first, 1);
     while at < part.len() && (is_tail || part[at] != 0) {
         let (gap, _, past) = decode(part, at)?;
-        if gap > reports - last {
-            return None;
-        }
-        (last, at) = (last + gap, past);
+        (last, at) = (last + u64::from(gap), past);
         postings += 1;
     }
-    Some(Read {
-        first,
-        last,
+    (last <= u64::from(reports)).then_some(Read {
+        first: first as u32,
+        last: last as u32,
         postings,
     })
 }

@@ -103,6 +103,22 @@ impl Workload {
         all
     }
 
+    /// Queries that name an unknown term beside several known ones: the chains of these are read
+    /// whole, as always, and nothing is listed.
+    pub fn readings(&self) -> Vec<Queries> {
+        let kinds = [
+            (2, "2 terms"),
+            (3, "3 terms"),
+            (4, "4 terms"),
+            (7, "7 terms"),
+        ];
+        let reading = |(number, name)| Queries {
+            and_unknown: true,
+            ..Queries::new(name, self.terms_of_one_report(number))
+        };
+        kinds.into_iter().map(reading).collect()
+    }
+
     /// So many terms of one report, for each of several reports: each query matches at least one.
     fn terms_of_one_report(&self, number: usize) -> Vec<Vec<u32>> {
         let step = self.reports.len() / QUERIES;
@@ -122,11 +138,17 @@ pub struct Queries {
     pub name: &'static str,
     /// The places of each query's terms.
     pub places: Vec<Vec<u32>>,
+    /// Whether each names an unknown term too.
+    and_unknown: bool,
 }
 
 impl Queries {
     fn new(name: &'static str, places: Vec<Vec<u32>>) -> Queries {
-        Queries { name, places }
+        Queries {
+            name,
+            places,
+            and_unknown: false,
+        }
     }
 
     /// Whether the queries name one term each.
@@ -143,7 +165,9 @@ impl Queries {
         };
         let frame = |places: &Vec<u32>| {
             let named = places.iter().map(|place| terms[*place as usize].as_bytes());
-            query_frame(call, 0, &named.collect::<Vec<&[u8]>>())
+            // No term of the workload has this byte.
+            let unknown = self.and_unknown.then_some(&b"!"[..]);
+            query_frame(call, 0, &named.chain(unknown).collect::<Vec<&[u8]>>())
         };
         self.places.iter().map(frame).collect()
     }
