@@ -3,6 +3,7 @@ pub mod Reading
 pub mod Calls
 pub mod One
 pub mod Seeking
+pub mod Standing
 pub mod Gathering
 pub mod Naming
 pub mod All
