@@ -14,6 +14,7 @@ use Rattle.chains.specs.declared.Passed.{Passed}
 use Rattle.chains.specs.Chains.{partEnd}
 use Rattle.chains.specs.Parts.{passed, movedTo, passedTo}
 use Rattle.chains.proofs.Steps.{part-end-le}
+use Rattle.chains.proofs.Parts.{part-at}
 use Rattle.chains.proofs.Passing.{shifted, passed-none, passed-shifted}
 use Rattle.counters.specs.declared.Counters.{Counters}
 use Rattle.query.specs.declared.Span.{Span}
@@ -61,11 +62,7 @@ beside-there {c} e =
 
 -- in the front of the arena up to `stop` the block's part is what stands from the block's place on
 front-part : (a : List ℕ) (b e : ℕ) → drop (place b) (take (place b + e) a) ≡ partOf a b 0 e
-unfolding partOf
-front-part a b e =
-    let p : place b + e - place b ≡ e - 0 = omega arith in
-    let q : place b + 0 ≡ place b = omega arith in
-    drop-take (place b) (place b + e) a ∙ rw (p, q)
+front-part a b e = drop-take (place b) (place b + e) a ∙ part-at a b e (place b) e refl refl 0
 
 -- the chain of head h stands there, with its reports from `low` on
 pub record Standing (a : List ℕ) (k : Counters) (h low : ℕ) (c : Cursor) (at stop number : ℕ) : Type 0 where
