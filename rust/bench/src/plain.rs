@@ -625,7 +625,8 @@ struct Read {
 
 /// Reads the part of one block from `at` on; its first gap counts from `base`. Nothing is given
 /// where it has no posting, a code is rejected or a number is over `reports`, which the last number
-/// tells for all of them.
+/// tells for all of them. No code starts with a null byte, so that this end of a part is looked for
+/// only where decoding fails.
 fn read_block(part: &[u8], at: usize, is_tail: bool, base: u32, reports: u32) -> Option<Read> {
     if at >= part.len() {
         return None;
@@ -633,8 +634,13 @@ fn read_block(part: &[u8], at: usize, is_tail: bool, base: u32, reports: u32) ->
     let (gap, _, mut at) = decode(part, at)?;
     let first = u64::from(base) + u64::from(gap);
     let (mut last, mut postings) = (first, 1);
-    while at < part.len() && (is_tail || part[at] != 0) {
-        let (gap, _, past) = decode(part, at)?;
+    while at < part.len() {
+        let Some((gap, _, past)) = decode(part, at) else {
+            if is_tail || part[at] != 0 {
+                return None;
+            }
+            break;
+        };
         (last, at) = (last + u64::from(gap), past);
         postings += 1;
     }
