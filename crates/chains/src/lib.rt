@@ -200,38 +200,20 @@ pub fn pass(part: &[u8], reports: u32, at: usize, number: u32, to: u32) -> Passe
     }
 }
 
-// Reads on to the part's end, or to where no sound posting stands. The numbers are judged once, by their sum behind the loop; only where that is over
+// Reads on to the part's end, or to where no sound posting stands. All postings are added up before the last number is judged; only where that is over
 // reports, so that the part is damaged, it is read again for the posting that is.
 fn pass_all(part: &[u8], reports: u32, at: usize, number: u32) -> Passed
     requires { ⌜ (number ≤ reports) × (length (now part) ≤ blockSize) ⌝ }
     ensures { λ r. ⌜ r ≡ passed (now (part .entry)) reports at number reports ⌝ }
 {
-    let mut p = at;
-    let mut n = number as u64;
-    let mut postings: u32 = 0;
-    while p < part.len() {
-        match postings::decode_at(part, p) {
-            Decoded::Rejected => {
-                break;
-            }
-            Decoded::Posting {
-                gap,
-                count: _,
-                length,
-            } => {
-                n += gap as u64;
-                p += length;
-                postings += 1;
-            }
-        }
-    }
-    if (reports as u64) < n {
+    let all = sums::add_all(part, at, number);
+    if (reports as u64) < all.number {
         return pass(part, reports, at, number, reports);
     }
     Passed {
-        at: p,
-        number: n as u32,
-        postings,
+        at: all.at,
+        number: all.number as u32,
+        postings: all.postings,
     }
 }
 

@@ -76,7 +76,7 @@ fn list_all(
 ) -> ListAnswer {
     let (blocks, _) = arena.as_chunks::<BLOCK_BYTES>();
     match named_heads(blocks, table, counters, frame, 3, 8) {
-        Ok(Some(named)) => fill_all(blocks, &named, numbers),
+        Ok(Some(named)) => fill_all(blocks, named, numbers),
         Ok(None) => answer(0, false, 0),
         Err(refusal) => answer(refusal, false, 0),
     }
@@ -631,24 +631,98 @@ fn read_block(part: &[u8], at: usize, is_tail: bool, base: u32, reports: u32) ->
     if at >= part.len() {
         return None;
     }
-    let (gap, _, mut at) = decode(part, at)?;
+    let (gap, _, at) = decode(part, at)?;
     let first = u64::from(base) + u64::from(gap);
-    let (mut last, mut postings) = (first, 1);
-    while at < part.len() {
-        let Some((gap, _, past)) = decode(part, at) else {
-            if is_tail || part[at] != 0 {
-                return None;
-            }
-            break;
-        };
-        (last, at) = (last + u64::from(gap), past);
-        postings += 1;
+    let mut sum = Sum {
+        at,
+        last: first,
+        postings: 1,
+    };
+    let front = part.len().min(ROWS);
+    let mut ended = add_up(part, &mut sum, front);
+    if let (ROWS, Ok(block)) = (sum.at, <&Block>::try_from(part)) {
+        if let Some((gaps, postings)) = read_rows(block) {
+            sum.at = BLOCK_BYTES;
+            sum.last += u64::from(gaps);
+            sum.postings += postings;
+        }
     }
-    (last <= u64::from(reports)).then_some(Read {
+    ended = ended && add_up(part, &mut sum, part.len());
+    if !ended && (is_tail || part[sum.at] != 0) {
+        return None;
+    }
+    (sum.last <= u64::from(reports)).then_some(Read {
         first: first as u32,
-        last: last as u32,
-        postings,
+        last: sum.last as u32,
+        postings: sum.postings,
     })
+}
+
+/// Postings added up: the offset past them, the number that they lead to, and how many they are.
+struct Sum {
+    at: usize,
+    last: u64,
+    postings: u32,
+}
+
+/// Adds up the postings that start before `stop`; false where one is rejected.
+#[inline(always)]
+fn add_up(part: &[u8], sum: &mut Sum, stop: usize) -> bool {
+    while sum.at < stop {
+        let Some((gap, _, past)) = decode(part, sum.at) else {
+            return false;
+        };
+        (sum.last, sum.at) = (sum.last + u64::from(gap), past);
+        sum.postings += 1;
+    }
+    true
+}
+
+/// Where the three rows of sixteen bytes start in a block.
+const ROWS: usize = 16;
+
+/// What a byte with two others before it adds to the gaps, where all values have one byte: nothing
+/// if it is the second byte of a code.
+#[inline(always)]
+fn gap_of(byte: u8, before: u8, earlier: u8) -> u8 {
+    match (before % 4 == 0 && earlier % 4 != 0, byte % 4) {
+        (true, _) => 0,
+        (false, 0) => byte / 4,
+        (false, _) => byte / 4 + 1,
+    }
+}
+
+/// What it adds to the number of postings; 64 where it is no value of one byte or where the two
+/// bytes before it do not tell.
+#[inline(always)]
+fn mark_of(byte: u8, before: u8, earlier: u8) -> u8 {
+    let unfit = byte == 0
+        || byte > 127
+        || (byte % 4 == 0 && before % 4 == 0 && earlier % 4 == 0);
+    match (unfit, before % 4 == 0 && earlier % 4 != 0) {
+        (true, _) => 64,
+        (false, true) => 0,
+        (false, false) => 1,
+    }
+}
+
+/// The gaps and the number of the postings in the rows, where these start with a code and all their
+/// values have one byte. The loop is one the compiler does for sixteen places at once.
+fn read_rows(block: &Block) -> Option<(u32, u32)> {
+    if block[15] % 4 == 0 || (block[63] % 4 == 0 && block[62] % 4 != 0) {
+        return None;
+    }
+    let (mut gaps, mut marks) = ([0u8; 16], [0u8; 16]);
+    for i in 0..16 {
+        for row in [16, 32, 48] {
+            let at = row + i;
+            gaps[i] += gap_of(block[at], block[at - 1], block[at - 2]);
+            marks[i] += mark_of(block[at], block[at - 1], block[at - 2]);
+        }
+    }
+    let total = |lanes: [u8; 16]| lanes.iter().map(|lane| u32::from(*lane)).sum::<u32>();
+    let postings = total(marks);
+    (postings < 64).then(|| (total(gaps), postings))
 }
 
 /// A place in a chain that was found sound, so that nothing is judged again.
@@ -791,9 +865,10 @@ fn fill_one(
     answer(0, true, places)
 }
 
-/// The cursor of the first term gives a number, which every other cursor goes on to.
-fn fill_all(blocks: &[Block], named: &Named, numbers: &mut [u32]) -> ListAnswer {
-    let heads = &named.heads[..named.count];
+/// The cursor of the rarest term gives a number, which every other cursor goes on to.
+fn fill_all(blocks: &[Block], mut named: Named, numbers: &mut [u32]) -> ListAnswer {
+    let heads = &mut named.heads[..named.count];
+    heads.sort_unstable_by_key(|head| word(&blocks[*head as usize], 12));
     let cursors = heads.iter().map(|head| Cursor::at_first(blocks, *head));
     let mut cursors: Vec<Cursor> = cursors.collect();
     let (first, others) = cursors.split_first_mut().expect("a query names a term");

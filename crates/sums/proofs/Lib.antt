@@ -1,0 +1,3 @@
+pub mod Adding
+pub mod Bytes
+pub mod Rows
