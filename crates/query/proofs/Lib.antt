@@ -6,5 +6,6 @@ pub mod Seeking
 pub mod Standing
 pub mod Gathering
 pub mod Naming
+pub mod Order
 pub mod All
 pub mod Bounds

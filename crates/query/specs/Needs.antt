@@ -1,14 +1,14 @@
 -- What the functions of this crate share: a named term's chain, the postings of a head, and cursors that move forward together.
 use mathlib.Core.Path.{_≡_}
 use Prim.Native.Nat.{ℕ, suc, _+_, _-_, _≤_, _<_}
-use mathlib.Core.List.{List, [], map}
+use mathlib.Core.List.{List, [], _∷_, _++_, map}
 use mathlib.Core.Bool.{Bool, true, false, cond, _||_}
-use lib.Dec.{leb, eqb}
-use lib.ListN.{length, getD, take, set}
-use Rattle.basics.specs.Lists.{keep}
+use lib.Dec.{ltb, leb, eqb}
+use lib.ListN.{length, getD, take, drop, set}
+use Rattle.basics.specs.Lists.{all, keep}
 use Rattle.frames.specs.Frames.{firstTerm, queryRefusal, queryStart, queryTerms}
 use Rattle.counters.specs.Counters.{Memory}
-use Rattle.blocks.specs.Fields.{linkSize, headOf, capacity, place}
+use Rattle.blocks.specs.Fields.{linkSize, blockSize, headOf, capacity, place}
 use Rattle.blocks.specs.Prescribed.{Posting}
 use Rattle.chains.specs.declared.Cursor.{Cursor}
 use Rattle.chains.specs.declared.Step.the-variants as step
@@ -149,3 +149,23 @@ Told m f hs (chains.Sound n) =
     (damagedTerms m (queryTerms f) ≡ false)
     × Heads (m .arena) (m .counters) hs n
     × (matches m f ≡ allFrom (m .arena) (m .counters) hs n (queryStart f))
+
+-- ---- the order in which chains are asked
+
+-- the heads' blocks lie in the arena
+abbrev pub HeadsInside : List ℕ → List ℕ → Type 0
+HeadsInside a hs = all (λ h. leb (place h + blockSize) (length a)) hs ≡ true
+
+-- head h before the first of the others that has as many postings or more
+unfoldable pub inserted : List ℕ → ℕ → List ℕ → List ℕ
+inserted a h [] = h ∷ []
+inserted a h (g ∷ gs) = cond (ltb (headOf a g .postings) (headOf a h .postings)) (g ∷ inserted a h gs) (h ∷ g ∷ gs)
+
+-- the head at place `at` so put among those behind it
+abbrev pub insertedAt : List ℕ → List ℕ → ℕ → List ℕ
+insertedAt a hs at = take at hs ++ inserted a (getD hs at 0) (drop (at + 1) hs)
+
+-- all heads in the order of their numbers of postings, the rarest first: each is put among those behind it, which are in order by then
+unfoldable pub rarestFirst : List ℕ → List ℕ → List ℕ
+rarestFirst a [] = []
+rarestFirst a (h ∷ hs) = inserted a h (rarestFirst a hs)
