@@ -24,16 +24,6 @@ module _ (part : List ℕ) (reports : ℕ) where
   abbrev Case : Sum → Type 0
   Case p = sums.Adds part (length part) p ⊎ sums.Ends part (length part) p
 
-  -- numbers only grow
-  grows : (k : ℕ) (p : Sum) → p .number ≤ add k p .number
-  unfolding addFrom
-  grows zero p = omega arith
-  grows (suc k) p = go (sums.adds-or-ends part (length part) p) (λ q. grows k q)
-    where
-      go : Case p → ((q : Sum) → q .number ≤ add k q .number) → p .number ≤ add (suc k) p .number
-      go (inl w) ih = rw (sums.add-on part (length part) k w) (omega (arith, ih (further p (w .g) (w .l))))
-      go (inr e) ih = rw (sums.add-ends part (length part) (suc k) e) (omega arith)
-
   stopped : {p : Sum} → sums.Ends part (length part) p → Stopped part reports reports (asPassed p)
   stopped (sums.at-stop h) = at-end h
   stopped (sums.no-posting e) = no-posting e
@@ -64,7 +54,7 @@ module _ (part : List ℕ) (reports : ℕ) where
           let q = further p (w .g) (w .l) in
           let e = sums.add-on part (length part) k w in
           let i : add k q .number ≤ reports = rw (sym e) h in
-          pass-on part reports reports k (goes w (omega (arith, grows k q, i))) ∙ ih q i ∙ sym (ap asPassed e)
+          pass-on part reports reports k (goes w (omega (arith, sums.add-grows part (length part) k q, i))) ∙ ih q i ∙ sym (ap asPassed e)
 
 pub added-passed : (part : List ℕ) (reports at number : ℕ) → addedTo part (length part) (sumOf at number) .number ≤ reports
     → asPassed (addedTo part (length part) (sumOf at number)) ≡ passed part reports at number reports

@@ -50,7 +50,7 @@ module _ (a : List ℕ) (b e : ℕ) where
   pub part-drop : (at : ℕ) → drop at (partOf a b 0 e) ≡ partOf a b at e
   part-drop at = sym (ap (drop at) (part-at a b e (place b) e refl refl 0)) ∙ part-at a b e (place b) e refl refl at
 
-  part-all : place b + e ≤ length a → length (partOf a b 0 e) ≡ e
+  pub part-all : place b + e ≤ length a → length (partOf a b 0 e) ≡ e
   part-all h = sym (ap length (part-at a b e (place b) e refl refl 0)) ∙ part-length a b e (place b) e refl refl h
 
 -- nothing is decoded at the part's end, nor at a null byte
@@ -98,6 +98,9 @@ step-first a used reports c i z = go (exhausted a c) refl
     go : (x : Bool) → exhausted a c ≡ x → stepAt a used reports c ≡ readAt a reports c (c .number)
     go false e = step-here a used reports c e
     go true e = step-empty a used reports c e z ∙ sym (none e)
+
+pub in-part-more : {a : List ℕ} {reports : ℕ} {c : Cursor} → InPart a reports c → (more : ℕ) → reports ≤ more → InPart a more c
+in-part-more w more h = record { inside = w .inside; end-in = w .end-in; at-in = w .at-in; begun = w .begun; number-in = omega (arith, w .number-in) }
 
 module _ {a : List ℕ} {reports : ℕ} {c : Cursor} (w : InPart a reports c) (at number : ℕ) where
   abbrev m : Cursor

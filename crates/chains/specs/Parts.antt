@@ -7,6 +7,7 @@ use lib.ListN.{length, drop}
 use Rattle.postings.specs.Coding.{decoded}
 use Rattle.postings.specs.declared.Decoded.{Decoded}
 use Rattle.postings.specs.declared.Decoded.the-variants as code
+use Rattle.sums.specs.Adding.{Bounded}
 use Rattle.blocks.specs.Fields.{blockSize, place, partOf}
 use Rattle.chains.specs.declared.Cursor.{Cursor}
 use Rattle.chains.specs.declared.Passed.{Passed}
@@ -75,3 +76,7 @@ pub record InPart (a : List ℕ) (reports : ℕ) (c : Cursor) : Type 0 where
   pub at-in : c .at ≤ partEnd c (c .block)
   pub begun : 0 < c .first
   pub number-in : c .number ≤ reports
+
+-- no number of its block's part from there on is over reports
+abbrev pub Known : List ℕ → ℕ → Cursor → Type 0
+Known a reports c = Bounded (partOf a (c .block) 0 (partEnd c (c .block))) reports (c .at) (c .number)

@@ -1,10 +1,11 @@
 // Chains of blocks (document 01, "Blocks"): a cursor that gives one posting after another, and reading a whole chain for damage.
 ghost use mathlib.Core.Path.{_≡_};
 ghost use mathlib.Core.Bool.{cond, _||_};
-ghost use Prim.Native.Nat.{_+_, _≤_, _<_};
+ghost use Prim.Native.Nat.{ℕ, _+_, _≤_, _<_};
 ghost use lib.Dec.{ltb, leb, eqb};
 ghost use lib.ListN.{length, getD};
-ghost use Rattle.blocks.specs.Fields.{blockSize, place, linkOf, partOf};
+ghost use Rattle.sums.specs.Adding.{Bounded};
+ghost use Rattle.blocks.specs.Fields.{maxWord, blockSize, place, linkOf, partOf};
 ghost use Rattle.chains.specs.Chains.{partEnd, exhausted, readAt, nextBlock, stepAt, stepFrom, atHead, badHead, chainOf, isWhole, Follows};
 ghost use Rattle.chains.specs.Parts.{passed, movedTo, passedTo, InPart, partRead};
 use blocks::Head;
@@ -187,6 +188,37 @@ pub fn pass(part: &[u8], reports: u32, at: usize, number: u32, to: u32) -> Passe
                         postings,
                     };
                 }
+                n += gap;
+                p += length;
+                postings += 1;
+            }
+        }
+    }
+    Passed {
+        at: p,
+        number: n,
+        postings,
+    }
+}
+
+// The same where no number of the part is over reports, as in a chain that was read whole before: none is judged again.
+pub fn pass_known(part: &[u8], at: usize, number: u32, to: u32) -> Passed
+    requires { ⌜ Bounded (now part) maxWord at number ⌝ }
+    ensures { λ r. ⌜ ((reports : ℕ) → Bounded (now (part .entry)) reports at number → r ≡ passed (now (part .entry)) reports at number to) ⌝ }
+{
+    let mut p = at;
+    let mut n = number;
+    let mut postings: u32 = 0;
+    while p < part.len() && n < to {
+        match postings::decode_at(part, p) {
+            Decoded::Rejected => {
+                break;
+            }
+            Decoded::Posting {
+                gap,
+                count: _,
+                length,
+            } => {
                 n += gap;
                 p += length;
                 postings += 1;

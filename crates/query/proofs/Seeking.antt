@@ -4,22 +4,28 @@ use Prim.Native.Nat.{ℕ, zero, suc, _+_, _-_, _≤_, _<_}
 use mathlib.Core.Path.{_≡_, refl, sym, ap, _∙_}
 use mathlib.Core.Bool.{Bool, true, false, _||_}
 use mathlib.Core.List.{List, [], _∷_}
+use mathlib.Core.Logic.{_⊎_, inl, inr}
 use native.Mathlib.Omega.{arith}
 use lib.Dec.{eqb}
-use lib.ListN.{getD, set, length-set}
+use lib.ListN.{length, getD, set, length-set}
 use lib.Seq.{getD-set-same, getD-set-other}
-use Rattle.basics.proofs.Cases.{by-eq}
+use Rattle.basics.proofs.Cases.{by-lt, by-eq}
 use borrow.Author.Tests.{ne-eqb}
 use Rattle.basics.specs.Lists.{any}
-use Rattle.blocks.specs.Fields.{headOf, capacity}
+use Rattle.blocks.specs.Fields.{headOf, capacity, partOf}
 use Rattle.blocks.specs.Prescribed.{Posting}
 use Rattle.chains.specs.declared.Cursor.{Cursor}
 use Rattle.chains.specs.declared.Step.{Step}
 use Rattle.chains.specs.declared.Step.the-variants as step
-use Rattle.chains.specs.Chains.{whole, isWhole, exhausted, readAt, nextBlock, stepAt, atHead, chainOf}
-use Rattle.chains.specs.Parts.{movedTo, passedTo}
-use Rattle.chains.proofs.Steps.{step-next, step-here}
-use Rattle.chains.proofs.Parts.{Within, here, on, step-part, within-number, passed-to}
+use Rattle.chains.specs.Chains.{partEnd, whole, isWhole, exhausted, readAt, nextBlock, stepAt, atHead, chainOf}
+use Rattle.postings.specs.Coding.{decoded}
+use Rattle.postings.specs.declared.Decoded.the-variants as code
+use Rattle.sums.specs.declared.Sum.{Sum}
+use Rattle.sums.specs.Adding.{sumOf, addFrom, addedTo, Bounded}
+use Rattle.sums.proofs.Adding.{Adds, Ends, adds-or-ends, add-on, add-ends}
+use Rattle.chains.specs.Parts.{movedTo, passedTo, InPart}
+use Rattle.chains.proofs.Steps.{part-end-le, step-next, step-here}
+use Rattle.chains.proofs.Parts.{Within, here, on, part-drop, part-all, part-more, part-posting, part-over, step-part, within-number, passed-to}
 use Rattle.chains.proofs.Skipping.{read-moved, next-earlier, read-more, next-more}
 use Rattle.chains.proofs.Laws.{step-follows, rest, whole-posting, whole-end, whole-undamaged, head-follows, head-rest, is-whole, chain-whole}
 use Rattle.counters.specs.declared.Counters.{Counters}
@@ -149,6 +155,54 @@ passing-part {number = number} p h = passing-within p (passed-to (p .stands .in-
 
 pub part-forward : {a : List ℕ} {k : Counters} {c : Cursor} (number : ℕ) → Stands a k c → 0 < c .first → c .number ≤ passedTo a (k .reports) c number .number
 part-forward number s h = within-number (passed-to (s .in-part h) number .1)
+
+-- ---- no number of a sound chain's part is over reports
+
+abbrev partAt : List ℕ → Cursor → List ℕ
+partAt a c = partOf a (c .block) 0 (partEnd c (c .block))
+
+abbrev sumAt : Cursor → ℕ → Sum
+sumAt c j = record { at = c .at; number = c .number; postings = j }
+
+module _ {a : List ℕ} {k : Counters} where
+  -- a posting that is decoded there is the cursor's next
+  module _ {c : Cursor} (s : Stands a k c) (w : InPart a (k .reports) c) {g f l : ℕ}
+      (h : c .at < partEnd c (c .block)) (e : decoded (partOf a (c .block) (c .at) (partEnd c (c .block))) ≡ code.Posting g f l) where
+    abbrev next : Cursor
+    next = movedTo c (c .at + l) (c .number + g)
+
+    here-is : stepAt a (k .used) (k .reports) c ≡ readAt a (k .reports) c (c .number)
+    here-is = step-here a (k .used) (k .reports) c (part-more w (c .at) (c .number) h e)
+
+    part-bound : c .number + g ≤ k .reports
+    part-bound =
+        by-lt (k .reports) (c .number + g)
+        (λ u. absurd (stands-undamaged s (here-is ∙ part-over a (k .reports) c (c .at) (c .number) e u)))
+        (λ u. u)
+
+    part-stands : Stands a k next
+    part-stands = stands-on s (here-is ∙ part-posting w (c .at) (c .number) h e part-bound)
+
+  -- by so many postings at most, counted from any number on
+  sum-in : (fuel : ℕ) (c : Cursor) (j : ℕ) → Stands a k c → 0 < c .first → addFrom fuel (partAt a c) (length (partAt a c)) (sumAt c j) .number ≤ k .reports
+  unfolding addFrom partEnd
+  sum-in zero c j s b = s .within
+  sum-in (suc fuel) c j s b = go (adds-or-ends (partAt a c) (length (partAt a c)) (sumAt c j)) (λ d i t h. sum-in fuel d i t h)
+    where
+      go : Adds (partAt a c) (length (partAt a c)) (sumAt c j) ⊎ Ends (partAt a c) (length (partAt a c)) (sumAt c j)
+          → ((d : Cursor) (i : ℕ) → Stands a k d → 0 < d .first → addFrom fuel (partAt a d) (length (partAt a d)) (sumAt d i) .number ≤ k .reports)
+          → addFrom (suc fuel) (partAt a c) (length (partAt a c)) (sumAt c j) .number ≤ k .reports
+      go (inr e) ih = rw (add-ends (partAt a c) (length (partAt a c)) (suc fuel) e) (s .within)
+      go (inl x) ih =
+          let w = s .in-part b in
+          let z = part-all a (c .block) (partEnd c (c .block)) (omega (arith, w .inside, part-end-le c (c .block) (w .end-in))) in
+          let h : c .at < partEnd c (c .block) = omega (arith, x .before-stop, z) in
+          let e = sym (ap decoded (part-drop a (c .block) (partEnd c (c .block)) (c .at))) ∙ x .found in
+          rw (add-on (partAt a c) (length (partAt a c)) fuel x) (ih (next s w h e) (j + 1) (part-stands s w h e) b)
+
+  pub stands-bounded : {c : Cursor} → Stands a k c → 0 < c .first → Bounded (partOf a (c .block) 0 (partEnd c (c .block))) (k .reports) (c .at) (c .number)
+  unfolding addedTo
+  stands-bounded {c} s b = record { last = sum-in (length (partAt a c)) c 0 s b }
 
 -- ---- the next block
 

@@ -14,12 +14,14 @@ use Rattle.chains.specs.declared.Passed.{Passed}
 use Rattle.chains.specs.Chains.{partEnd}
 use Rattle.chains.specs.Parts.{passed, movedTo, passedTo}
 use Rattle.chains.proofs.Steps.{part-end-le}
-use Rattle.chains.proofs.Parts.{part-at}
+use Rattle.sums.specs.Adding.{Bounded}
+use Rattle.sums.proofs.Adding.{bounded-end, bounded-moved}
+use Rattle.chains.proofs.Parts.{part-at, part-end-moved}
 use Rattle.chains.proofs.Passing.{shifted, passed-none, passed-shifted}
 use Rattle.counters.specs.declared.Counters.{Counters}
 use Rattle.query.specs.declared.Span.{Span}
 use Rattle.query.specs.Needs.{Stands, Passing, Sought, spanOf, caughtUp}
-use Rattle.query.proofs.Seeking.{passing-here, passing-part, passing-then, Stream}
+use Rattle.query.proofs.Seeking.{stands-bounded, passing-here, passing-part, passing-then, Stream}
 
 -- with cursor c and the places and the number beside it, the chain stands at cursor d
 pub data Beside (c : Cursor) (at stop number : ℕ) : Cursor → Type 0 where
@@ -63,6 +65,14 @@ beside-there {c} e =
 -- in the front of the arena up to `stop` the block's part is what stands from the block's place on
 front-part : (a : List ℕ) (b e : ℕ) → drop (place b) (take (place b + e) a) ≡ partOf a b 0 e
 front-part a b e = drop-take (place b) (place b + e) a ∙ part-at a b e (place b) e refl refl 0
+
+-- no number up to `stop` is over reports
+pub beside-bounded : {a : List ℕ} {k : Counters} {c d : Cursor} {at stop number : ℕ} → Stands a k d → Beside c at stop number d → Bounded (take stop a) (k .reports) at number
+beside-bounded w (before z s e) = bounded-end (simp length-take (omega arith)) (omega (arith, w .within))
+beside-bounded {a} {k} {c} {at = at} {stop} {number} w (within n h p q) =
+    let e = partEnd c (c .block) in
+    let x : Bounded (partOf a (c .block) 0 e) (k .reports) n number = rw (← part-end-moved c n number (c .block)) (stands-bounded w h) in
+    rw (p, q) (bounded-moved (take (place (c .block) + e) a) (place (c .block)) (rw (front-part a (c .block) e) x))
 
 -- the chain of head h stands there, with its reports from `low` on
 pub record Standing (a : List ℕ) (k : Counters) (h low : ℕ) (c : Cursor) (at stop number : ℕ) : Type 0 where

@@ -32,6 +32,10 @@ addFrom (suc fuel) part stop p =
 unfoldable pub addedTo : List ℕ → ℕ → Sum → Sum
 addedTo part stop p = addFrom (length part) part stop p
 
+-- from offset `at` on, behind the posting of that number, no number of the part is over `reports`: the last one is the largest
+pub record Bounded (part : List ℕ) (reports at number : ℕ) : Type 0 where
+  pub last : addedTo part (length part) (sumOf at number) .number ≤ reports
+
 -- a posting takes a byte or more, and its gap has 32 bits
 pub record Small (p : Sum) : Type 0 where
   pub number-in : p .number ≤ 4294967296 * (p .at + 1)
