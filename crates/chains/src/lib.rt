@@ -7,7 +7,7 @@ ghost use lib.ListN.{length, getD};
 ghost use Rattle.sums.specs.Adding.{Bounded};
 ghost use Rattle.blocks.specs.Fields.{maxWord, blockSize, place, linkOf, partOf};
 ghost use Rattle.chains.specs.Chains.{partEnd, exhausted, readAt, nextBlock, stepAt, stepFrom, atHead, badHead, chainOf, isWhole, Follows};
-ghost use Rattle.chains.specs.Parts.{passed, movedTo, passedTo, InPart, partRead};
+ghost use Rattle.chains.specs.Parts.{passed, movedTo, passedTo, InPart, Known, partRead};
 use blocks::Head;
 use postings::Decoded;
 
@@ -202,7 +202,7 @@ pub fn pass(part: &[u8], reports: u32, at: usize, number: u32, to: u32) -> Passe
 }
 
 // The same where no number of the part is over reports, as in a chain that was read whole before: none is judged again.
-pub fn pass_known(part: &[u8], at: usize, number: u32, to: u32) -> Passed
+fn pass_known(part: &[u8], at: usize, number: u32, to: u32) -> Passed
     requires { ⌜ Bounded (now part) maxWord at number ⌝ }
     ensures { λ r. ⌜ ((reports : ℕ) → Bounded (now (part .entry)) reports at number → r ≡ passed (now (part .entry)) reports at number to) ⌝ }
 {
@@ -264,14 +264,14 @@ pub fn moved(c: Cursor, at: usize, number: u32) -> Cursor
     }
 }
 
-// The cursor's place behind what is passed of its block's part, from behind its first posting on.
-pub fn pass_part(arena: &[u8], reports: u32, c: Cursor, to: u32) -> Cursor
-    requires { ⌜ InPart (now arena) reports c ⌝ }
-    ensures { λ r. ⌜ r ≡ passedTo (now (arena .entry)) reports c to ⌝ }
+// The cursor's place behind what is passed of its block's part, from behind its first posting on, in a chain that was read whole before.
+pub fn pass_part(arena: &[u8], c: Cursor, to: u32) -> Cursor
+    requires { ⌜ InPart (now arena) maxWord c × Known (now arena) maxWord c ⌝ }
+    ensures { λ r. ⌜ ((reports : ℕ) → Known (now (arena .entry)) reports c → r ≡ passedTo (now (arena .entry)) reports c to) ⌝ }
 {
     let start = blocks::place_of(c.block);
     let end = start + part_end(c);
-    let p = pass(&arena[start..end], reports, c.at, c.number, to);
+    let p = pass_known(&arena[start..end], c.at, c.number, to);
     moved(c, p.at, p.number)
 }
 

@@ -1,10 +1,13 @@
+pub mod Marking
 pub mod Filling
 pub mod Reading
 pub mod Calls
 pub mod One
 pub mod Seeking
-pub mod Standing
+pub mod Windowed
 pub mod Gathering
+pub mod Asking
+pub mod Listed
 pub mod Naming
 pub mod Order
 pub mod All

@@ -74,6 +74,23 @@ module _ (a : List ℕ) (k : Counters) where
       go step.End e ih = let z : _≡_ {A = ℕ} 0 1 = cc (whole-end a (k .used) (k .reports) c (p ∷ ps) w e) in absurd (omega arith)
       go step.Damaged e ih = absurd (whole-undamaged a (k .used) (k .reports) c (p ∷ ps) w e)
 
+  -- nor one over reports
+  none-over : (ps : List Posting) (c : Cursor) (n : ℕ) → rest a (k .used) (k .reports) c ≡ whole ps → k .reports < n → holds ps n ≡ false
+  none-over [] c n w h = holds-none n
+  none-over (p ∷ ps) c n w h = go (stepAt a (k .used) (k .reports) c) refl (none-over ps)
+    where
+      go : (s : Step) → stepAt a (k .used) (k .reports) c ≡ s
+          → ((c′ : Cursor) (n : ℕ) → rest a (k .used) (k .reports) c′ ≡ whole ps → k .reports < n → holds ps n ≡ false) → holds (p ∷ ps) n ≡ false
+      go (step.Posting m f c′) e ih =
+          let s = step-follows a (k .used) (k .reports) c e in
+          let v = whole-posting a (k .used) (k .reports) c (p ∷ ps) w e in
+          let x : ps ≡ v .0 = rest-same (v .2) in
+          let y : p .number ≡ m = ap (λ (q : Posting). q .number) (first-same (v .2)) in
+          let z : p .number ≡ n → ⊥ = λ q. omega (arith, s .within) in
+          holds-cons p ps n ∙ rw (ne-eqb (p .number) n z) (ih c′ n (v .1 ∙ ap whole (sym x)) h)
+      go step.End e ih = let z : _≡_ {A = ℕ} 0 1 = cc (whole-end a (k .used) (k .reports) c (p ∷ ps) w e) in absurd (omega arith)
+      go step.Damaged e ih = absurd (whole-undamaged a (k .used) (k .reports) c (p ∷ ps) w e)
+
 module _ {a : List ℕ} {k : Counters} {c : Cursor} (s : Stands a k c) where
   reads : (ps : List Posting) × (rest a (k .used) (k .reports) c ≡ whole ps)
   reads = is-whole (rest a (k .used) (k .reports) c) (s .sound)
@@ -91,6 +108,10 @@ module _ {a : List ℕ} {k : Counters} {c : Cursor} (s : Stands a k c) where
   -- up to the cursor's report too
   pub ahead-here : (n : ℕ) → n ≤ c .number → ahead a k c n ≡ eqb (c .number) n
   ahead-here n h = ahead-is a k c (reads .0) (reads .1) n ∙ rw (none-before a k (reads .0) c n (reads .1) h) (or-false (eqb (c .number) n))
+
+  -- none is over reports
+  pub ahead-over : (n : ℕ) → k .reports < n → ahead a k c n ≡ false
+  ahead-over n h = ahead-is a k c (reads .0) (reads .1) n ∙ rw (ne-eqb (c .number) n (λ q. omega (arith, s .within)), none-over a k (reads .0) c n (reads .1) h)
 
   module _ {m f : ℕ} {c′ : Cursor} (e : stepAt a (k .used) (k .reports) c ≡ step.Posting m f c′) where
     -- one step on

@@ -1,2 +1,3 @@
 pub mod Listing
 pub mod Needs
+pub mod Windows

@@ -22,7 +22,6 @@ use Rattle.query.specs.declared.Chain.the-variants.{Damaged, Unknown, So
 use Rattle.query.specs.declared.Chains.{Chains}
 use Rattle.query.specs.declared.Chains.the-variants as chains
 use Rattle.query.specs.declared.ListAnswer.{ListAnswer}
-use Rattle.query.specs.declared.Span.{Span}
 use Rattle.query.specs.Listing.{ListedOne, ListedAll, postingsIn, holds, common, damagedTerms, matches}
 
 -- a term's chain as the search found it
@@ -120,15 +119,6 @@ nowhere = record { tail = 0; end = 0; block = 0; at = 0; number = 0; first = 0; 
 pub record Opened (a : List ℕ) (k : Counters) (hs : List ℕ) (count : ℕ) (cs : List Cursor) : Type 0 where
   pub eight : length cs ≡ 8
   pub at : (i : ℕ) → i < count → getD cs i nowhere ≡ atHead (headOf a (getD hs i 0)) (k .used) (getD hs i 0)
-
--- where in the arena the next posting stands and the part of the cursor's block ends; both 0 before the chain's first posting
-unfoldable pub spanOf : Cursor → Span
-spanOf c =
-    cond (eqb (c .first) 0) (record { at = 0; stop = 0 }) (record { at = place (c .block) + c .at; stop = place (c .block) + partEnd c (c .block) })
-
--- the cursor moved on in its block to a place in the arena and a number; before the chain's first posting it stays
-unfoldable pub caughtUp : Cursor → ℕ → ℕ → Cursor
-caughtUp c at number = cond (eqb (c .first) 0) c (movedTo c (at - place (c .block)) number)
 
 -- the reports that all heads' chains hold, at or past the start
 unfoldable pub allFrom : List ℕ → Counters → List ℕ → ℕ → ℕ → List Posting

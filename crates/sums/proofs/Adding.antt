@@ -8,7 +8,6 @@ use mathlib.Core.Logic.{_⊎_, inl, inr}
 use native.Mathlib.Omega.{arith}
 use lib.Dec.{ltb}
 use lib.ListN.{length, drop, length-drop}
-use lib.Seq.{drop-drop}
 use borrow.Author.Tests.{lt-ltb, le-ltb}
 use Rattle.basics.proofs.Cases.{by-lt}
 use Rattle.postings.specs.Coding.{decoded}
@@ -136,56 +135,28 @@ module _ (part : List ℕ) (stop : ℕ) where
       go (inl w) ih = rw (add-on part stop k w) (omega (arith, ih (further p (w .g) (w .l))))
       go (inr e) ih = rw (add-ends part stop (suc k) e) (omega arith)
 
--- ---- in a part that starts further on
-
-abbrev number : Sum → ℕ
-number p = p .number
-
--- the same, m bytes further on and with any number of postings
-abbrev moved : ℕ → Sum → ℕ → Sum
-moved m p c = record { at = m + p .at; number = p .number; postings = c }
-
-module _ (s : List ℕ) (m : ℕ) where
-  abbrev rest : List ℕ
-  rest = drop m s
-
-  adds-moved : {p : Sum} (c : ℕ) → Adds rest (length rest) p → Adds s (length s) (moved m p c)
-  adds-moved {p} c w = record {
-    g = w .g;
-    f = w .f;
-    l = w .l;
-    before-stop = omega (arith, simp length-drop at (w .before-stop));
-    found = ap decoded (sym (drop-drop (p .at) m s)) ∙ w .found;
-  }
-
-  ends-moved : {p : Sum} (c : ℕ) → Ends rest (length rest) p → Ends s (length s) (moved m p c)
-  ends-moved c (at-stop h) = at-stop (omega (arith, simp length-drop at h))
-  ends-moved {p} c (no-posting e) = no-posting (ap decoded (sym (drop-drop (p .at) m s)) ∙ e)
-
-  number-moved : (k : ℕ) (p : Sum) (c : ℕ) → addFrom k s (length s) (moved m p c) .number ≡ addFrom k rest (length rest) p .number
-  unfolding addFrom adds-moved
-  number-moved zero p c = refl
-  number-moved (suc k) p c = go (adds-or-ends rest (length rest) p) (λ q c. number-moved k q c)
-    where
-      go : Adds rest (length rest) p ⊎ Ends rest (length rest) p
-          → ((q : Sum) (c : ℕ) → addFrom k s (length s) (moved m q c) .number ≡ addFrom k rest (length rest) q .number)
-          → addFrom (suc k) s (length s) (moved m p c) .number ≡ addFrom (suc k) rest (length rest) p .number
-      go (inr e) ih = ap number (add-ends s (length s) (suc k) (ends-moved c e)) ∙ sym (ap number (add-ends rest (length rest) (suc k) e))
-      go (inl w) ih =
-          let q = further p (w .g) (w .l) in
-          let e : m + p .at + w .l ≡ m + (p .at + w .l) = omega arith in
-          ap number (add-on s (length s) k (adds-moved c w))
-          ∙ ap (λ (x : ℕ). addFrom k s (length s) (record { at = x; number = q .number; postings = c + 1 }) .number) e
-          ∙ ih q (c + 1)
-          ∙ sym (ap number (add-on rest (length rest) k w))
-
 -- ---- bounds
 
 -- how many postings were counted before does not matter
-any-count : (part : List ℕ) (k at number c : ℕ) → addFrom k part (length part) (record { at = at; number = number; postings = c }) .number ≡ addFrom k part (length part) (sumOf at number) .number
-any-count part k at number c =
-    let e : 0 + at ≡ at = omega arith in
-    ap (λ (x : ℕ). addFrom k part (length part) (record { at = x; number = number; postings = c }) .number) (sym e) ∙ number-moved part 0 k (sumOf at number) c
+any-count : (part : List ℕ) (stop k at number c d : ℕ)
+    → addFrom k part stop (record { at = at; number = number; postings = c }) .number ≡ addFrom k part stop (record { at = at; number = number; postings = d }) .number
+unfolding addFrom
+any-count part stop zero at number c d = refl
+any-count part stop (suc k) at number c d =
+    go (adds-or-ends part stop (record { at = at; number = number; postings = c })) (λ at number c d. any-count part stop k at number c d)
+  where
+    p : ℕ → Sum
+    p c = record { at = at; number = number; postings = c }
+
+    go : Adds part stop (p c) ⊎ Ends part stop (p c)
+        → ((at number c d : ℕ) → addFrom k part stop (record { at = at; number = number; postings = c }) .number ≡ addFrom k part stop (record { at = at; number = number; postings = d }) .number)
+        → addFrom (suc k) part stop (p c) .number ≡ addFrom (suc k) part stop (p d) .number
+    go (inr (at-stop h)) ih = ap (λ (x : Sum). x .number) (add-ends part stop (suc k) {p = p c} (at-stop h)) ∙ sym (ap (λ (x : Sum). x .number) (add-ends part stop (suc k) {p = p d} (at-stop h)))
+    go (inr (no-posting e)) ih =
+        ap (λ (x : Sum). x .number) (add-ends part stop (suc k) {p = p c} (no-posting e)) ∙ sym (ap (λ (x : Sum). x .number) (add-ends part stop (suc k) {p = p d} (no-posting e)))
+    go (inl w) ih =
+        let v : Adds part stop (p d) = record { g = w .g; f = w .f; l = w .l; before-stop = w .before-stop; found = w .found } in
+        ap (λ (x : Sum). x .number) (add-on part stop k w) ∙ ih (at + w .l) (number + w .g) (c + 1) (d + 1) ∙ sym (ap (λ (x : Sum). x .number) (add-on part stop k v))
 
 module _ {part : List ℕ} {reports at n : ℕ} (b : Bounded part reports at n) where
   pub bounded-here : n ≤ reports
@@ -201,21 +172,7 @@ module _ {part : List ℕ} {reports at n : ℕ} (b : Bounded part reports at n) 
       let x : Sum = further (sumOf at n) g l in
       let y : addFrom (length part) part (length part) (sumOf at n) ≡ addFrom (length part) part (length part) x
       = add-enough part (length part) (length part) (suc (length part)) (sumOf at n) (omega arith) (omega arith) ∙ add-on part (length part) (length part) w in
-      record { last = omega (arith, b .last, ap number y, any-count part (length part) (at + l) (n + g) 1) }
+      record { last = omega (arith, b .last, ap (λ (z : Sum). z .number) y, any-count part (length part) (length part) (at + l) (n + g) 1 0) }
 
   pub bounded-more : (more : ℕ) → reports ≤ more → Bounded part more at n
   bounded-more more h = record { last = omega (arith, b .last) }
-
--- at the part's end there is no other number
-pub bounded-end : {part : List ℕ} {reports at n : ℕ} → length part ≤ at → n ≤ reports → Bounded part reports at n
-unfolding addedTo
-bounded-end {part} {at = at} {n} h i = record { last = rw (add-ends part (length part) (length part) {p = sumOf at n} (at-stop h)) i }
-
--- what stands in front of a part does not matter
-pub bounded-moved : (s : List ℕ) (m : ℕ) {reports at n : ℕ} → Bounded (drop m s) reports at n → Bounded s reports (m + at) n
-unfolding addedTo
-bounded-moved s m {reports} {at} {n} b =
-    let k = length s in
-    let x = number-moved s m k (sumOf at n) 0 in
-    let y = ap number (add-enough (drop m s) (length (drop m s)) k (length (drop m s)) (sumOf at n) (simp length-drop (omega arith)) (omega arith)) in
-    record { last = omega (arith, b .last, x, y) }

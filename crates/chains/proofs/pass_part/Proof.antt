@@ -3,11 +3,13 @@
 use borrow.Author.Needs.{needs}
 use Rattle.chains.proofs.pass_part.Statement.{statement}
 use Rattle.chains.proofs.pass_part.Tie as tie
-use mathlib.Core.Path.{ap, _∙_}
-use Prim.Native.Nat.{ℕ}
+use mathlib.Core.Path.{_≡_, ap, _∙_}
+use Prim.Native.Nat.{ℕ, _+_, _-_}
 use mathlib.Core.List.{List}
 use native.Mathlib.Omega.{arith}
+use lib.ListN.{take, drop}
 use denote.Ref.{now}
+use Rattle.blocks.specs.Fields.{partOf}
 use Rattle.chains.specs.declared.Passed.{Passed}
 use Rattle.chains.specs.Chains.{partEnd}
 use Rattle.chains.specs.Parts.{passed, movedTo, passedTo}
@@ -23,21 +25,30 @@ part-end-requires c κs = search needs
 add-end : tie.Need-add-end
 add-end c =
     let s = c .before .before .before in
-    omega (arith, s .pre .inside, part-end-le (s .args .c) (s .args .c .block) (s .pre .end-in), c .part-end .ensures, c .before .place-of .ensures)
+    omega (arith, s .pre .0 .inside, part-end-le (s .args .c) (s .args .c .block) (s .pre .0 .end-in), c .part-end .ensures, c .before .place-of .ensures)
 
-sub-pass : tie.Need-sub-pass
-sub-pass c = search needs
+sub-pass-known : tie.Need-sub-pass-known
+sub-pass-known c = search needs
 
-part-pass-start : tie.Need-part-pass-start
-part-pass-start c = search needs
+part-pass-known-start : tie.Need-part-pass-known-start
+part-pass-known-start c = search needs
 
-part-pass-end : tie.Need-part-pass-end
-part-pass-end c =
+part-pass-known-end : tie.Need-part-pass-known-end
+part-pass-known-end c =
     let s = c .before .before .before in
-    omega (arith, s .pre .inside, part-end-le (s .args .c) (s .args .c .block) (s .pre .end-in), c .part-end .ensures, c .before .place-of .ensures)
+    omega (arith, s .pre .0 .inside, part-end-le (s .args .c) (s .args .c .block) (s .pre .0 .end-in), c .part-end .ensures, c .before .place-of .ensures)
 
-pass-requires : tie.Need-pass-requires
-pass-requires c κs = search needs
+-- what is lent is the block's part
+whole-part : (c : tie.After-part-end)
+    → let s = c .before .before .before .args in
+    let from = c .before .place-of .result in
+    take (from + c .part-end .result - from) (drop from (now (s .arena))) ≡ partOf (now (s .arena)) (s .c .block) 0 (partEnd (s .c) (s .c .block))
+whole-part c =
+    let s = c .before .before .before .args in
+    part-at (now (s .arena)) (s .c .block) (partEnd (s .c) (s .c .block)) (c .before .place-of .result) (c .part-end .result) (c .before .place-of .ensures) (c .part-end .ensures) 0
+
+pass-known-requires : tie.Need-pass-known-requires
+pass-known-requires c κs = rw (whole-part (c .before)) (c .before .before .before .before .pre .1)
 
 moved-requires : tie.Need-moved-requires
 moved-requires c κs = search needs
@@ -47,11 +58,10 @@ unfolding passedTo
 returns c =
     let e = c .before .before .before in
     let s = e .before .before .before .args in
+    λ reports b.
     c .moved .ensures
     ∙ ap (λ (p : Passed). movedTo (s .c) (p .at) (p .number))
-    (c .before .pass .ensures
-    ∙ ap (λ (part : List ℕ). passed part (s .reports) (s .c .at) (s .c .number) (s .to))
-    (part-at (now (s .arena)) (s .c .block) (partEnd (s .c) (s .c .block)) (e .before .place-of .result) (e .part-end .result) (e .before .place-of .ensures) (e .part-end .ensures) 0))
+    (c .before .pass-known .ensures reports (rw (whole-part e) b) ∙ ap (λ (part : List ℕ). passed part reports (s .c .at) (s .c .number) (s .to)) (whole-part e))
 
 pub pass-part-spec : {M : Type 1} → statement M
 pass-part-spec =
@@ -60,9 +70,9 @@ pass-part-spec =
     place-of-requires
     part-end-requires
     add-end
-    sub-pass
-    part-pass-start
-    part-pass-end
-    pass-requires
+    sub-pass-known
+    part-pass-known-start
+    part-pass-known-end
+    pass-known-requires
     moved-requires
     returns)
