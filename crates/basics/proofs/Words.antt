@@ -3,14 +3,14 @@
 use mathlib.Core.Path.{_≡_, refl, _∙_}
 use mathlib.Core.Bool.{false, _&&_}
 use mathlib.Core.List.{List, _++_}
-use Prim.Native.Nat.{ℕ, zero, suc, _+_, _^_, _≤_, _<_}
+use Prim.Native.Nat.{ℕ, zero, suc, _+_, _*_, _/_, _%_, _^_, _≤_, _<_}
 use native.Mathlib.Nat.{add-zero, add-assoc}
 use native.Mathlib.Numerals.{add-one}
 use native.Mathlib.Omega.{arith}
 use borrow.Author.Tests.{eq-eqb, ne-eqb}
 use lib.Dec.{eqb}
 use lib.ListN.{length, getD, drop}
-use lib.Seq.{sets, getD-drop}
+use lib.Seq.{sets, set-getD, getD-drop}
 use Rattle.basics.specs.Words.{word, wordAt}
 use Rattle.basics.specs.Lists.{same}
 use Rattle.basics.proofs.Cases.{by-eq}
@@ -77,6 +77,27 @@ unfolding word wordAt
 wordAt-stored s at n h =
     let e = wordAt-within s at (word n) 0 (omega arith) (omega arith) in
     (rw add-zero at e) ∙ omega arith
+
+-- bytes that hold a number are left as they are where it is stored again
+pub word-again : (s : List ℕ) (at : ℕ) → ((i : ℕ) → getD s i 0 < 256) → sets s at (word (wordAt s at)) ≡ s
+unfolding word wordAt
+word-again s at byte =
+    let b₀ = getD s at 0 in
+    let b₁ = getD s (at + 1) 0 in
+    let b₂ = getD s (at + 2) 0 in
+    let b₃ = getD s (at + 3) 0 in
+    let n = b₀ * 16777216 + b₁ * 65536 + b₂ * 256 + b₃ in
+    let h₁ = byte (at + 1) in
+    let h₂ = byte (at + 2) in
+    let h₃ = byte (at + 3) in
+    let e₀ : n / 16777216 ≡ b₀ = omega arith in
+    let e₁ : n / 65536 % 256 ≡ b₁ = omega arith in
+    let e₂ : n / 256 % 256 ≡ b₂ = omega arith in
+    let e₃ : n % 256 ≡ b₃ = omega arith in
+    let p₁ : suc at ≡ at + 1 = omega arith in
+    let p₂ : suc (at + 1) ≡ at + 2 = omega arith in
+    let p₃ : suc (at + 2) ≡ at + 3 = omega arith in
+    rw (e₀, e₁, e₂, e₃, set-getD s at 0, p₁, set-getD s (at + 1) 0, p₂, set-getD s (at + 2) 0, p₃, set-getD s (at + 3) 0)
 
 -- ---- two lists of bytes, compared four at a time
 

@@ -1,3 +1,4 @@
 pub mod Capacity
+pub mod Fields
 pub mod Writes
 pub mod Marked

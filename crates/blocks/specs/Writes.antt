@@ -1,4 +1,5 @@
 -- Writing postings into blocks (document 01, "Blocks"; source document 001, algorithm 1).
+use mathlib.Core.Path.{_≡_}
 use Prim.Native.Nat.{ℕ, _+_, _-_, _≤_, _<_}
 use mathlib.Core.List.{List, [], _∷_, _++_}
 use mathlib.Core.Bool.{Bool, cond}
@@ -8,15 +9,19 @@ use lib.Seq.{sets}
 use Rattle.basics.specs.Words.{word}
 use Rattle.postings.specs.Coding.{code}
 use Rattle.blocks.specs.declared.Head.{Head}
-use Rattle.blocks.specs.Fields.{maxWord, blockSize, headFixed, linkSize, place, linkOf, headOf}
+use Rattle.blocks.specs.Fields.{maxWord, blockSize, headFixed, linkSize, place, linkOf, headOf, partStart}
 
 -- a block is cleared when taken
 unfoldable pub padded : List ℕ → List ℕ
 padded s = s ++ replicate (blockSize - length s) 0
 
--- the fields of a head that a posting changes: tail block, last report, number of postings, write offset
+-- the fields of a head that every posting changes: last report, number of postings, write offset
+abbrev pub growing : ℕ → ℕ → ℕ → List ℕ
+growing last postings end = word last ++ word postings ++ (end ∷ [])
+
+-- and before them the tail block, which a posting in a new block changes
 unfoldable pub changing : ℕ → ℕ → ℕ → ℕ → List ℕ
-changing tail last postings end = word tail ++ word last ++ word postings ++ (end ∷ [])
+changing tail last postings end = word tail ++ growing last postings end
 
 -- ---- a new term: its head at block b, with report n and count f. A head's first gap counts from 0
 
@@ -57,3 +62,9 @@ pub record Appends (a : List ℕ) (h : ℕ) (d : Head) (n : ℕ) : Type 0 where
   pub inside : d .end ≤ blockSize
   pub ascends : d .last < n
   pub countable : d .postings < maxWord
+
+-- and where it goes to the tail: d is the head as it stands in the arena, and the write offset lies in the tail's postings part. So the posting
+-- misses the head's tail field, which is not written again
+pub record InTail (a : List ℕ) (h : ℕ) (d : Head) : Type 0 where
+  pub stands : d ≡ headOf a h
+  pub behind : partStart d h (d .tail) ≤ d .end

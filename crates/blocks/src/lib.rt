@@ -9,7 +9,7 @@ ghost use Rattle.postings.specs.Coding.{code};
 ghost use Rattle.terms.specs.Terms.{maxTerm};
 ghost use Rattle.blocks.specs.Fields.{blockSize, capacity, place, linkOf, headOf, partStart};
 ghost use Rattle.blocks.specs.Marked.{markedRight};
-ghost use Rattle.blocks.specs.Writes.{padded, changing, openHead, fits, addTo, joinTo, append, Appends};
+ghost use Rattle.blocks.specs.Writes.{padded, growing, changing, openHead, fits, addTo, joinTo, append, Appends, InTail};
 use postings::BGap;
 use postings::DGap;
 
@@ -86,16 +86,24 @@ fn clear(arena: &mut [u8], b: u32)
     }
 }
 
-// Writes the fields of a head that a posting changes.
+// Writes the fields of a head that every posting changes.
+fn put_growing(arena: &mut [u8], h: u32, last: u32, postings: u32, end: usize)
+    requires { ⌜ (place h + blockSize ≤ length (now arena)) × (end < 256) ⌝ }
+    ensures { λ r. ⌜ now (arena .exit) ≡ sets (now (arena .entry)) (place h + 8) (growing last postings end) ⌝ }
+{
+    let at = place_of(h);
+    basics::write_word(arena, at + 8, last);
+    basics::write_word(arena, at + 12, postings);
+    arena[at + 16] = end as u8;
+}
+
+// The same with the tail, which a posting in a new block changes too.
 fn put_changing(arena: &mut [u8], h: u32, tail: u32, last: u32, postings: u32, end: usize)
     requires { ⌜ (place h + blockSize ≤ length (now arena)) × (end < 256) ⌝ }
     ensures { λ r. ⌜ now (arena .exit) ≡ sets (now (arena .entry)) (place h + 4) (changing tail last postings end) ⌝ }
 {
-    let at = place_of(h);
-    basics::write_word(arena, at + 4, tail);
-    basics::write_word(arena, at + 8, last);
-    basics::write_word(arena, at + 12, postings);
-    arena[at + 16] = end as u8;
+    basics::write_word(arena, place_of(h) + 4, tail);
+    put_growing(arena, h, last, postings, end);
 }
 
 // Writes the first posting of a block, whose postings begin at `start`, and returns the offset past it. The only place that takes a b-gap.
@@ -155,14 +163,13 @@ pub fn fits_in(d: Head, number: u32, count: u32) -> bool
     d.end + postings::posting_length(gap.0, count) <= 64
 }
 
-// A posting at the write offset of the tail.
+// A posting at the write offset of the tail. The tail stays, so that field of the head is not written again.
 pub fn add_to(arena: &mut [u8], h: u32, d: Head, number: u32, count: u32)
-    requires { ⌜ Appends (now arena) h d number × (fits d number count ≡ true) ⌝ }
+    requires { ⌜ Appends (now arena) h d number × InTail (now arena) h d × (fits d number count ≡ true) ⌝ }
     ensures { λ r. ⌜ now (arena .exit) ≡ addTo (now (arena .entry)) h d number count ⌝ }
 {
-    let tail = d.tail;
-    let end = put_next(arena, tail, d.end, DGap::from_last(d.last, number), count);
-    put_changing(arena, h, tail, number, d.postings + 1, end);
+    let end = put_next(arena, d.tail, d.end, DGap::from_last(d.last, number), count);
+    put_growing(arena, h, number, d.postings + 1, end);
 }
 
 // Block b as the new tail: the old tail leads to it, and its first posting counts from the old tail's first number.
@@ -181,7 +188,7 @@ pub fn join_to(arena: &mut [u8], h: u32, d: Head, b: u32, number: u32, count: u3
 
 // One more posting of the term with head h: in its tail, or in block b where it does not fit. Says whether it fitted.
 pub fn append_posting(arena: &mut [u8], h: u32, b: u32, number: u32, count: u32) -> bool
-    requires { ⌜ Appends (now arena) h (headOf (now arena) h) number × (place b + blockSize ≤ length (now arena)) × (linkOf (now arena) (headOf (now arena) h .tail) < number) ⌝ }
+    requires { ⌜ Appends (now arena) h (headOf (now arena) h) number × InTail (now arena) h (headOf (now arena) h) × (place b + blockSize ≤ length (now arena)) × (linkOf (now arena) (headOf (now arena) h .tail) < number) ⌝ }
     ensures { λ r. ⌜ (r ≡ fits (headOf (now (arena .entry)) h) number count) × (now (arena .exit) ≡ append (now (arena .entry)) h b number count) ⌝ }
 {
     let d = head_of(arena, h);

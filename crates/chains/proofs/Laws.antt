@@ -7,12 +7,13 @@ use mathlib.Core.List.{List, [], _∷_}
 use native.Mathlib.Omega.{arith}
 use lib.Dec.{leb, eqb}
 use lib.ListN.{length}
-use borrow.Author.Tests.{ltb-false, leb-false, eqb-true, eq-eqb, ne-eqb}
+use borrow.Author.Tests.{ltb-false, leb-false, eqb-true, eq-eqb}
 use Rattle.basics.proofs.Lists.{or-left, or-right, and-left, and-right}
 use Rattle.basics.proofs.Cases.{by-lt, by-eq}
 use Rattle.blocks.specs.declared.Head.{Head}
 use Rattle.blocks.specs.Fields.{blockSize, linkSize, place, linkOf, headOf, partStart}
 use Rattle.blocks.specs.Prescribed.{Posting}
+use Rattle.blocks.proofs.Fields.{part-own, part-other}
 use Rattle.chains.specs.declared.Cursor.{Cursor}
 use Rattle.chains.specs.declared.Step.{Step}
 use Rattle.chains.specs.declared.Step.the-variants as step
@@ -186,8 +187,7 @@ head-good d used h e =
     }
 
 part-start-ge : (d : Head) (h b : ℕ) → linkSize ≤ partStart d h b
-unfolding partStart
-part-start-ge d h b = by-eq b h (λ e. rw (eq-eqb b h e) (omega arith)) (λ n. rw (ne-eqb b h n) (omega arith))
+part-start-ge d h b = by-eq b h (λ e. rw (part-own d h b e) (omega arith)) (λ n. rw (part-other d h b n) (omega arith))
 
 -- the cursor before the first posting of a sound head can be followed
 pub head-follows : (a : List ℕ) (used h : ℕ) (d : Head) → place used ≤ length a → h < used → badHead d used h ≡ false

@@ -11,7 +11,7 @@ use Rattle.basics.proofs.Lists.{or-left, or-right}
 use Rattle.frames.specs.Frames.{Line, countBytes, countAt, fields, foldedAt, lineAt}
 use Rattle.blocks.specs.declared.Head.{Head}
 use Rattle.blocks.specs.Fields.{linkOf, headOf}
-use Rattle.blocks.specs.Writes.{fits, Appends}
+use Rattle.blocks.specs.Writes.{fits, Appends, InTail}
 use Rattle.blocks.proofs.Capacity.{block-inside}
 use Rattle.chains.specs.Chains.{badHead}
 use Rattle.chains.proofs.Laws.{Good, head-good}
@@ -58,6 +58,10 @@ fine-appends a k h d r u w = record {
   ascends = omega (arith, w .last);
   countable = omega (arith, w .postings, r .numbered);
 }
+
+-- as the head stands, at the write offset of its tail
+pub fine-tail : (a : List ℕ) (k : Counters) (h : ℕ) → Fine a k h (headOf a h) → InTail a h (headOf a h)
+fine-tail a k h w = record { stands = refl; behind = omega (arith, w .good .past) }
 
 module _ (a : List ℕ) (k : Counters) (f h : ℕ) where
   pub at-damaged : damagedHead a k h (headOf a h) ≡ true → placeAt a k f h ≡ Damaged

@@ -196,27 +196,23 @@ fn frame(payload: &[u8]) {
     }
 }
 
-// One posting more in the chain whose head is block 0, in an arena of 24 blocks. Returns the blocks used; nothing is written where the posting
-// does not follow the last one or there is no room.
+// One posting more in the chain whose head is block 0, in an arena of 24 blocks. Returns the blocks used; nothing is written where the head is
+// not sound, the posting does not follow the last one or there is no room.
 fn put_posting(arena: &mut [u8], used: u32, number: u32, count: u32) -> u32
     requires { ⌜ 1536 ≤ length (now arena) ⌝ }
 {
     let d = blocks::head_of(arena, 0);
-    let tail = d.tail;
-    if 24 <= tail {
+    if chains::is_bad_head(d, 24, 0) {
         return used;
     }
     if 24 <= used {
         return used;
     }
-    let first = blocks::link_of(arena, tail);
+    let first = blocks::link_of(arena, d.tail);
     if number <= d.last {
         return used;
     }
     if number <= first {
-        return used;
-    }
-    if 64 < d.end {
         return used;
     }
     if d.postings == 4294967295 {

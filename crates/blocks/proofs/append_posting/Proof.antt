@@ -23,7 +23,8 @@ fits-in-requires c κs =
 add-to-requires : tie.Need-add-to-requires
 add-to-requires c κs =
     let i = c .before in
-    rw (i .before .before .head-of .ensures) (i .before .before .before .before .before .pre .0, sym (tested (i .before)) ∙ i .if1 .taken)
+    let s = i .before .before .before .before .before in
+    rw (i .before .before .head-of .ensures) (s .pre .0, s .pre .1, sym (tested (i .before)) ∙ i .if1 .taken)
 
 same-length : tie.Need-same-length
 same-length c = search needs
@@ -40,7 +41,7 @@ join-to-requires : tie.Need-join-to-requires
 join-to-requires c κs =
     let h = c .before .before .before in
     let s = h .before .before .before in
-    rw (h .head-of .ensures) (s .pre)
+    rw (h .head-of .ensures) (s .pre .0, s .pre .2, s .pre .3)
 
 same-length-2 : tie.Need-same-length-2
 same-length-2 c = search needs

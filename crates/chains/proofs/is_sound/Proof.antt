@@ -13,6 +13,7 @@ use Rattle.chains.specs.declared.Cursor.{Cursor}
 use Rattle.chains.proofs.Steps.{part-end-le}
 use Rattle.blocks.specs.declared.Head.{Head}
 use Rattle.blocks.specs.Fields.{place, linkOf, headOf}
+use Rattle.blocks.proofs.Fields.{head-short}
 use Rattle.chains.specs.Chains.{partEnd, badHead, isWhole}
 use Rattle.chains.proofs.Laws.{chain-bad}
 use Rattle.chains.proofs.Counting.{before, Entering, start, not-begun, Read, block-read, tail-ended, tail-broken, part-broken, none-left, unlinked, next-entering}
@@ -27,10 +28,7 @@ abbrev μ-loop : tie.MeasureT-loop
 
 -- the length of the term is a byte
 short : (c : tie.After-head-of Inv-loop μ-loop) → c .head-of .result .length < 256
-unfolding headOf
-short c =
-    let s = c .before .before .args in
-    omega (arith, ap (λ (d : Head). d .length) (c .head-of .ensures), c .before .shared-slice-known .given (place (s .h) + 17))
+short c = head-short _ _ (c .head-of .ensures) (λ i. c .before .shared-slice-known .given i .fits)
 
 -- the test of the head is that of the definition
 judged : (c : tie.After-is-bad-head Inv-loop μ-loop)

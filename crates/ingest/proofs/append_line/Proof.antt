@@ -1,21 +1,21 @@
 -- `ingest::append_line` meets its contract: the tests are of the head as it stands, which was read once, and a sound head can take a posting.
 -- Assumes nothing.
 use borrow.Author.Needs.{needs}
-use mathlib.Core.Path.{_≡_, sym, ap, _∙_}
+use mathlib.Core.Path.{_≡_, sym, _∙_}
 use mathlib.Core.Bool.{false}
 use mathlib.Core.List.{List}
-use Prim.Native.Nat.{ℕ, _+_, _<_}
+use Prim.Native.Nat.{ℕ, _<_}
 use native.Mathlib.Omega.{arith}
 use denote.Ref.{now}
 use Rattle.frames.specs.Frames.{Line}
-use Rattle.blocks.specs.declared.Head.{Head}
-use Rattle.blocks.specs.Fields.{place, capacity, headOf}
+use Rattle.blocks.specs.Fields.{capacity, headOf}
 use Rattle.blocks.specs.Writes.{fits, Appends}
 use Rattle.blocks.proofs.Capacity.{block-inside, next-inside}
+use Rattle.blocks.proofs.Fields.{head-short}
 use Rattle.counters.specs.declared.Counters.{Counters}
 use Rattle.counters.specs.Counters.{Memory, memory}
 use Rattle.ingest.specs.Report.{nextNumber, lineOf, damagedHead, written}
-use Rattle.ingest.proofs.Places.{Fine, head-fine, fine-appends, at-damaged, at-stays, at-spills}
+use Rattle.ingest.proofs.Places.{Fine, head-fine, fine-appends, fine-tail, at-damaged, at-stays, at-spills}
 use Rattle.ingest.proofs.Writing.{append-damaged, append-stays, append-full, append-spills}
 use Rattle.ingest.proofs.append_line.Statement.{statement}
 use Rattle.ingest.proofs.append_line.Tie as tie
@@ -47,9 +47,7 @@ module _ (c : tie.After-head-of) where
 
   -- the length of its term is a byte
   short : c .head-of .result .length < 256
-  unfolding headOf
-  short =
-      omega (arith, ap (λ (d : Head). d .length) (c .head-of .ensures), c .before .before .before .slice-known .given (place h + 17))
+  short = head-short _ _ (c .head-of .ensures) (λ i. c .before .before .before .slice-known .given i .fits)
 
   -- the line, beside a table and a term that have no part in it
   abbrev m : List ℕ → Memory
@@ -98,7 +96,7 @@ add-to-requires : tie.Need-add-to-requires
 add-to-requires c κs =
     let t = c .before in
     let e = t .before .before in
-    rw (d e .head-of .ensures) (appends e, fitted (t .before) ∙ t .if2 .taken)
+    rw (d e .head-of .ensures) (appends e, fine-tail (a (d e)) (k (d e)) (h (d e)) (fine e), fitted (t .before) ∙ t .if2 .taken)
 
 same-length-2 : tie.Need-same-length-2
 same-length-2 c = search needs

@@ -1,15 +1,15 @@
 -- `ingest::place_at` meets its contract: the tests are of the head as it stands.
 -- Assumes nothing.
 use borrow.Author.Needs.{needs}
-use mathlib.Core.Path.{_≡_, sym, ap, _∙_}
+use mathlib.Core.Path.{_≡_, sym, _∙_}
 use mathlib.Core.Bool.{false}
 use Prim.Native.Nat.{_+_, _<_}
 use native.Mathlib.Omega.{arith}
 use denote.Ref.{now}
-use Rattle.blocks.specs.declared.Head.{Head}
-use Rattle.blocks.specs.Fields.{place, headOf}
+use Rattle.blocks.specs.Fields.{headOf}
 use Rattle.blocks.specs.Writes.{fits}
 use Rattle.blocks.proofs.Capacity.{block-inside}
+use Rattle.blocks.proofs.Fields.{head-short}
 use Rattle.ingest.specs.Report.{damagedHead}
 use Rattle.ingest.proofs.Places.{head-fine, at-damaged, at-stays, at-spills}
 use Rattle.ingest.proofs.place_at.Statement.{statement}
@@ -22,9 +22,7 @@ head-of-requires c κs =
 
 -- the length of the term is a byte
 short : (c : tie.After-head-of) → c .head-of .result .length < 256
-unfolding headOf
-short c =
-    omega (arith, ap (λ (d : Head). d .length) (c .head-of .ensures), c .before .shared-slice-known .given (place (c .before .before .args .h) + 17))
+short c = head-short _ _ (c .head-of .ensures) (λ i. c .before .shared-slice-known .given i .fits)
 
 is-damaged-requires : tie.Need-is-damaged-requires
 is-damaged-requires c κs = let s = c .before .before in (s .pre .0, s .pre .1, short c)

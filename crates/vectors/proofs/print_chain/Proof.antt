@@ -4,12 +4,11 @@ use Rattle.vectors.proofs.print_chain.Statement.{statement}
 use Rattle.vectors.proofs.print_chain.Tie as tie
 use borrow.Author.Needs.{needs}
 use native.Mathlib.Omega.{arith}
-use mathlib.Core.Path.{_≡_, sym, ap, _∙_}
+use mathlib.Core.Path.{_≡_, sym, _∙_}
 use Prim.Native.Nat.{ℕ, _-_, _≤_, _<_}
 use lib.ListN.{length}
 use denote.Ref.{now}
-use Rattle.blocks.specs.declared.Head.{Head}
-use Rattle.blocks.specs.Fields.{headOf}
+use Rattle.blocks.proofs.Fields.{head-short}
 use Rattle.chains.specs.declared.Cursor.{Cursor}
 use Rattle.chains.specs.declared.Step.the-variants as step
 use Rattle.chains.specs.Chains.{atHead}
@@ -24,8 +23,7 @@ abbrev μ-loop : tie.MeasureT-loop
 
 -- the length of the term is a byte
 short : (c : tie.After-head-of Inv-loop μ-loop) → c .head-of .result .length < 256
-unfolding headOf
-short c = omega (arith, ap (λ (d : Head). d .length) (c .head-of .ensures), c .before .shared-slice-known .given 17)
+short c = head-short _ _ (c .head-of .ensures) (λ i. c .before .shared-slice-known .given i .fits)
 
 head-of-requires : tie.Need-head-of-requires Inv-loop μ-loop
 head-of-requires c κs = search needs
