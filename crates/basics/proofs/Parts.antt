@@ -1,12 +1,12 @@
 -- Parts of lists: of a part, of a list that was stored into, and behind the end of one of two lists.
 -- Assumes nothing.
-use mathlib.Core.Path.{_≡_, refl, sym, _∙_}
+use mathlib.Core.Path.{_≡_, refl, sym, ap, _∙_}
 use mathlib.Core.List.{List, [], _∷_, _++_, append-nil}
 use Prim.Native.Nat.{ℕ, zero, suc, _+_, _-_, _≤_, _<_}
-use native.Mathlib.Nat.{zero-add, add-suc, suc-add, sub-zero, zero-sub, suc-sub-suc}
+use native.Mathlib.Nat.{add-zero, zero-add, add-suc, suc-add, sub-zero, zero-sub, suc-sub-suc}
 use native.Mathlib.Omega.{arith}
-use lib.ListN.{length, getD, take, drop, set}
-use lib.Seq.{take-nil, take-set-le, drop-set-lt, take-set-lt, drop-set-add, drop-length, sets, sets-eq, getD-append-seam}
+use lib.ListN.{length, getD, take, drop, set, length-drop}
+use lib.Seq.{take-nil, take-set-le, drop-set-lt, take-set-lt, drop-set-add, drop-length, drop-drop, getD-drop, sets, sets-eq, getD-append-seam}
 
 module _ {A : Type 0} where
   -- ---- a part of a part
@@ -52,6 +52,20 @@ module _ {A : Type 0} where
   sets-whole l vs e =
       let z : 0 + length vs ≡ length l = omega arith in
       sets-eq vs l 0 (omega arith) ∙ rw (z, drop-length) (append-nil vs)
+
+  -- ---- a list whose rest from the n-th element on is known
+
+  module _ (l : List A) (n : ℕ) {x : A} {xs : List A} (e : drop n l ≡ x ∷ xs) where
+    -- that element
+    pub rest-here : (d : A) → getD l n d ≡ x
+    rest-here d = ap (λ (k : ℕ). getD l k d) (sym (add-zero n)) ∙ sym (getD-drop n l 0 d) ∙ ap (λ (z : List A). getD z 0 d) e
+
+    pub rest-in : n < length l
+    rest-in = omega (arith, simp length-drop at (ap length e))
+
+    -- the rest behind it
+    pub rest-next : drop (n + 1) l ≡ xs
+    rest-next = sym (drop-drop 1 n l) ∙ ap (drop 1) e
 
   -- ---- elements of a list and of one that is longer
 

@@ -1,4 +1,5 @@
 pub mod Capacity
 pub mod Fields
 pub mod Writes
+pub mod Names
 pub mod Marked

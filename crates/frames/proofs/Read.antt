@@ -4,13 +4,12 @@ use mathlib.Core.Path.{_≡_, refl, sym, ap, _∙_}
 use mathlib.Core.Bool.{Bool, true, false, not, _||_, or-false, or-assoc}
 use mathlib.Core.List.{List, [], _∷_, _++_, append-assoc, append-nil}
 use Prim.Native.Nat.{ℕ, _+_, _-_, _*_, _≤_, _<_}
-use native.Mathlib.Nat.{add-zero}
 use native.Mathlib.Numerals.{add-one}
 use native.Mathlib.Omega.{arith}
 use lib.Dec.{eqb}
-use lib.ListN.{length, getD, set, take, drop, length-set, length-take, length-drop, length-append, length-map, take-append-drop}
-use lib.Seq.{drop-drop, take-take, take-suc-set, getD-drop, length-take-le}
-use Rattle.basics.proofs.Parts.{drop-take}
+use lib.ListN.{length, getD, set, take, drop, length-set, length-take, length-append, length-map, take-append-drop}
+use lib.Seq.{take-take, take-suc-set, length-take-le}
+use Rattle.basics.proofs.Parts.{drop-take, rest-here, rest-in, rest-next}
 use Rattle.basics.specs.Lists.{any}
 use Rattle.terms.specs.Terms.{folded, fnv1a, isTerm}
 use Rattle.terms.proofs.Laws.{length-folded, folded-take, folded-drop}
@@ -50,13 +49,13 @@ module _ (f : List ℕ) (at : ℕ) where
     line-first = p .is ∙ rw (hashes-more h)
 
     pub hash-here : getD hashes n 0 ≡ fnv1a (foldedAt f at)
-    hash-here = ap (λ (k : ℕ). getD hashes k 0) (sym (add-zero n)) ∙ sym (getD-drop n hashes 0 0) ∙ ap (λ (hs : List ℕ). getD hs 0 0) line-first
+    hash-here = rest-here hashes n line-first 0
 
     pub hash-in : n < length hashes
-    hash-in = omega (arith, simp length-drop at (ap length line-first))
+    hash-in = rest-in hashes n line-first
 
     pub hash-on : Hashed f (pastField countBytes f at) (n + 1) hashes
-    hash-on = record { rest = p .rest; is = sym (drop-drop 1 n hashes) ∙ ap (drop 1) line-first }
+    hash-on = record { rest = p .rest; is = rest-next hashes n line-first }
 
 -- there is a hash for each line from an offset on
 pub hashes-enough : (f : List ℕ) (at : ℕ) {hashes : List ℕ} → Hashed f at 0 hashes → length (fields countBytes f at) ≤ length hashes

@@ -17,14 +17,16 @@ use Rattle.frames.proofs.Laws.{Sound, sound-on, sound-lines, lines-more, lines-
 use Rattle.blocks.specs.Fields.{maxWord, capacity}
 use Rattle.blocks.proofs.Capacity.{capacity-as}
 use Rattle.blocks.proofs.Writes.{length-openHead, length-addTo, length-joinTo}
+use Rattle.lookup.specs.declared.Found.the-variants as found
+use Rattle.lookup.specs.Lookup.{search as sought}
 use Rattle.lookup.proofs.Search.{length-enter}
 use Rattle.counters.specs.Counters.{Memory, maxTerms}
 use Rattle.counters.proofs.Laws.{maxTerms-as, Right}
 use Rattle.ingest.specs.declared.Place.{Place}
 use Rattle.ingest.specs.declared.Place.the-variants.{Damaged, New, Stays, Spills}
-use Rattle.ingest.specs.Report.{nextNumber, placeOf, isDamaged, termsFor, blocksFor, total, planOf, planRows, linesPlan, written, Writing, wroteAs, writeLines}
+use Rattle.ingest.specs.Report.{nextNumber, placeAt, placed, placeOf, isDamaged, termsFor, blocksFor, total, planOf, planRows, linesPlan, written, Writing, wroteAs, writeLines}
 use Rattle.ingest.specs.Needs.{Held, writeOne, appendOne}
-use Rattle.ingest.proofs.Places.{linesFrom}
+use Rattle.ingest.proofs.Places.{at-terms, linesFrom}
 use Rattle.ingest.proofs.Plans.{passed}
 
 abbrev pub HeldIn : Memory → Type 0
@@ -138,6 +140,15 @@ module _ (m : Memory) (n : ℕ) (l : Line) where
   pub append-spills : (h : ℕ) → m .counters .used < capacity (m .arena) → appendOne m n l (Spills h) ≡ wroteAs (written m n l (Spills h)) false
   unfolding appendOne isDamaged blocksFor
   append-spills h u = rw (le-ltb (capacity (m .arena) - m .counters .used) 1 (omega arith))
+
+-- the line of a term that is found goes where its head says, and brings no term more
+module _ (m : Memory) (l : Line) (h : ℕ) (e : sought (m .arena) (m .counters .used) (m .table) (l .term) ≡ found.At h) where
+  pub known-place : placeOf m l ≡ placeAt (m .arena) (m .counters) (l .count) h
+  unfolding placeOf placed
+  known-place = rw e
+
+  pub known-one : (n : ℕ) → m .counters .terms ≤ maxTerms (m .table) → appendOne m n l (placeAt (m .arena) (m .counters) (l .count) h) ≡ writeOne m n l (placeOf m l)
+  known-one n few = rw known-place (append-one m n l _ few (at-terms (m .arena) (m .counters) (l .count) h))
 
 -- ---- one line after another
 

@@ -1,16 +1,18 @@
 // Taking a report (document 01, "Taking a report"): all lines are judged before a byte is written.
 ghost use mathlib.Core.Path.{_≡_};
 ghost use mathlib.Core.List.{List};
-ghost use Prim.Native.Nat.{ℕ, _+_, _≤_, _<_};
-ghost use lib.ListN.{length};
+ghost use Prim.Native.Nat.{ℕ, _+_, _-_, _≤_, _<_};
+ghost use lib.ListN.{length, getD};
 ghost use Rattle.terms.specs.Terms.{maxTerm, fnv1a};
 ghost use Rattle.frames.specs.Frames.{maxBody, lines, reportRefusal, reportLines};
-ghost use Rattle.frames.specs.Read.{Read};
+ghost use Rattle.frames.specs.Read.{maxLines, Read};
 ghost use Rattle.frames.specs.Refusals.{firstOf};
 ghost use Rattle.blocks.specs.Fields.{maxWord};
-ghost use Rattle.lookup.specs.Lookup.{slots};
+ghost use Rattle.lookup.specs.declared.Found.the-variants.{At};
+ghost use Rattle.lookup.specs.Lookup.{slots, search};
 ghost use Rattle.counters.specs.Counters.{memory};
 ghost use Rattle.ingest.specs.Report.{lineOf, wroteAs, damagedHead, placeAt, placed, placeOf, planRows, linesPlan, writeLines, callRefusal, reportCall, takenOf};
+ghost use Rattle.ingest.specs.Kept.{Kept, markOf, markTail, marking};
 ghost use Rattle.ingest.specs.Needs.{Room, Below, Held, withPlace, writeOne, appendOne, refusedWith};
 ghost use Rattle.ingest.specs.declared.Place.the-variants.{New};
 use blocks::Head;
@@ -124,7 +126,8 @@ fn with_place(plan: Plan, p: Place) -> Plan
 }
 
 // The places of all lines on the memory as it is. The first slots of all lines, and then the heads that they lead to, are asked for before the
-// first is compared: their loads miss the caches, and so they overlap.
+// first is compared: their loads miss the caches, and so they overlap. `kept` first has the entries of these slots; an entry stays there for its
+// line's turn where the term was found right there, else it becomes 0.
 fn plan_lines(
     arena: &[u8],
     table: &[u32],
@@ -133,14 +136,14 @@ fn plan_lines(
     names: &[u8],
     hashes: &[u32],
     count: usize,
+    kept: &mut [u32],
 ) -> Plan
-    requires { ⌜ Room (now arena) k × (reportRefusal (now frame) ≡ 0) × Read (now frame) (now names) (now hashes) × (count ≡ length (lines (now frame))) ⌝ }
-    ensures { λ r. ⌜ (r ≡ linesPlan (memory (now (arena .entry)) (now (table .entry)) k) (reportLines (now (frame .entry)))) × (r .terms ≤ maxBody) ⌝ }
+    requires { ⌜ Room (now arena) k × (reportRefusal (now frame) ≡ 0) × Read (now frame) (now names) (now hashes) × (count ≡ length (lines (now frame))) × (maxLines ≤ length (now kept)) ⌝ }
+    ensures { λ r. ⌜ (r ≡ linesPlan (memory (now (arena .entry)) (now (table .entry)) k) (reportLines (now (frame .entry)))) × (r .terms ≤ maxBody) × Kept (memory (now (arena .entry)) (now (table .entry)) k) (now (frame .entry)) (now (kept .exit)) ⌝ }
 {
-    let mut entries = [0u32; 820];
     let mut lengths = [0u8; 820];
-    lookup::first_entries(table, hashes, count, &mut entries);
-    lookup::first_lengths(arena, k.used, &entries, count, &mut lengths);
+    lookup::first_entries(table, hashes, count, kept);
+    lookup::first_lengths(arena, k.used, kept, count, &mut lengths);
     let mut plan = Plan {
         damaged: false,
         terms: 0,
@@ -149,15 +152,17 @@ fn plan_lines(
     let mut c = Cursor { at: 4 };
     let mut n: usize = 0;
     while c.at < frame.len() {
+        let entry = kept[n];
         let found = lookup::find_from(
             arena,
             k.used,
             table,
             c.name(frame, names),
             hashes[n],
-            entries[n],
+            entry,
             lengths[n],
         );
+        kept[n] = lookup::first_hit(found, entry);
         let p = place_found(arena, k, found, c.count(frame));
         plan = with_place(plan, p);
         n += 1;
@@ -185,11 +190,22 @@ fn judge(arena: &[u8], table: &[u32], k: Counters, plan: Plan) -> u8
 
 // ---- writing
 
+// Marks a tail that a posting was put into, unless it is the chain's head: in a damaged arena it may be another term's head, which may now hold
+// another name.
+fn mark_tail(marks: &mut [u8; 1024], h: u32, tail: u32)
+    ensures { λ _. ⌜ now (marks .exit) ≡ markTail (now (marks .entry)) h tail ⌝ }
+{
+    if tail != h {
+        marks[(tail % 1024) as usize] = 1;
+    }
+}
+
 // A line of a known term, judged afresh: its posting goes into the tail, or where it does not fit there into the next block. The head that is
 // judged is the one that is written to, so it is read once.
-fn append_line(arena: &mut [u8], k: Counters, h: u32, count: u32) -> Written
+fn append_line(arena: &mut [u8], k: Counters, h: u32, count: u32, marks: &mut [u8; 1024]) -> Written
     requires { ⌜ Room (now arena) k × (h < k .used) ⌝ }
-    ensures { λ r. ⌜ ((t w : List ℕ) → wroteAs (memory (now (arena .exit)) t (r .counters)) (r .stopped) ≡ appendOne (memory (now (arena .entry)) t k) (k .reports + 1) (lineOf w count) (placeAt (now (arena .entry)) k count h)) ⌝ }
+    ensures { λ r. ⌜ ((t w : List ℕ) → wroteAs (memory (now (arena .exit)) t (r .counters)) (r .stopped) ≡ appendOne (memory (now (arena .entry)) t k) (k .reports + 1) (lineOf w count) (placeAt (now (arena .entry)) k count h))
+        × (now (marks .exit) ≡ marking (now (arena .entry)) (now (marks .entry)) (placeAt (now (arena .entry)) k count h)) ⌝ }
 {
     let number = k.reports + 1;
     let used = k.used;
@@ -202,6 +218,7 @@ fn append_line(arena: &mut [u8], k: Counters, h: u32, count: u32) -> Written
     }
     if blocks::fits_in(d, number, count) {
         blocks::add_to(arena, h, d, number, count);
+        mark_tail(marks, h, d.tail);
         return Written {
             stopped: false,
             counters: k,
@@ -262,7 +279,7 @@ fn open_line(
     }
 }
 
-// One line, judged afresh when its turn comes.
+// One line, judged afresh when its turn comes: its term is looked up again.
 fn write_line(
     arena: &mut [u8],
     table: &mut [u32],
@@ -270,9 +287,11 @@ fn write_line(
     name: &[u8],
     hash: u32,
     count: u32,
+    marks: &mut [u8; 1024],
 ) -> Written
     requires { ⌜ Held (now arena) (now table) k × (length (now name) ≤ maxTerm) × (hash ≡ fnv1a (now name)) ⌝ }
-    ensures { λ r. ⌜ wroteAs (memory (now (arena .exit)) (now (table .exit)) (r .counters)) (r .stopped) ≡ writeOne (memory (now (arena .entry)) (now (table .entry)) k) (k .reports + 1) (lineOf (now (name .entry)) count) (placeOf (memory (now (arena .entry)) (now (table .entry)) k) (lineOf (now (name .entry)) count)) ⌝ }
+    ensures { λ r. ⌜ (wroteAs (memory (now (arena .exit)) (now (table .exit)) (r .counters)) (r .stopped) ≡ writeOne (memory (now (arena .entry)) (now (table .entry)) k) (k .reports + 1) (lineOf (now (name .entry)) count) (placeOf (memory (now (arena .entry)) (now (table .entry)) k) (lineOf (now (name .entry)) count)))
+        × (now (marks .exit) ≡ marking (now (arena .entry)) (now (marks .entry)) (placeOf (memory (now (arena .entry)) (now (table .entry)) k) (lineOf (now (name .entry)) count))) ⌝ }
 {
     match lookup::find(arena, k.used, table, name, hash) {
         Found::Damaged => Written {
@@ -280,8 +299,33 @@ fn write_line(
             counters: k,
         },
         Found::Unknown(slot) => open_line(arena, table, k, name, count, slot),
-        Found::At(h) => append_line(arena, k, h, count),
+        Found::At(h) => append_line(arena, k, h, count, marks),
     }
+}
+
+// The same for a line whose first entry may have been kept. The head that it leads to still holds the term unless it is marked, so the term is
+// looked up again only where that is so or nothing was kept.
+fn write_kept(
+    arena: &mut [u8],
+    table: &mut [u32],
+    k: Counters,
+    name: &[u8],
+    hash: u32,
+    count: u32,
+    entry: u32,
+    marks: &mut [u8; 1024],
+) -> Written
+    requires { ⌜ Held (now arena) (now table) k × (length (now name) ≤ maxTerm) × (hash ≡ fnv1a (now name)) × (0 < entry → getD (now marks) (markOf (entry - 1)) 0 ≡ 0 → search (now arena) (k .used) (now table) (now name) ≡ At (entry - 1)) ⌝ }
+    ensures { λ r. ⌜ (wroteAs (memory (now (arena .exit)) (now (table .exit)) (r .counters)) (r .stopped) ≡ writeOne (memory (now (arena .entry)) (now (table .entry)) k) (k .reports + 1) (lineOf (now (name .entry)) count) (placeOf (memory (now (arena .entry)) (now (table .entry)) k) (lineOf (now (name .entry)) count)))
+        × (now (marks .exit) ≡ marking (now (arena .entry)) (now (marks .entry)) (placeOf (memory (now (arena .entry)) (now (table .entry)) k) (lineOf (now (name .entry)) count))) ⌝ }
+{
+    if 0 < entry {
+        let h = entry - 1;
+        if marks[(h % 1024) as usize] == 0 {
+            return append_line(arena, k, h, count, marks);
+        }
+    }
+    write_line(arena, table, k, name, hash, count, marks)
 }
 
 // The lines in frame order, each judged afresh when its turn comes.
@@ -292,10 +336,12 @@ fn write_lines(
     frame: &[u8],
     names: &[u8],
     hashes: &[u32],
+    kept: &[u32],
 ) -> Written
-    requires { ⌜ Held (now arena) (now table) k × (reportRefusal (now frame) ≡ 0) × Read (now frame) (now names) (now hashes) ⌝ }
+    requires { ⌜ Held (now arena) (now table) k × (reportRefusal (now frame) ≡ 0) × Read (now frame) (now names) (now hashes) × (maxLines ≤ length (now kept)) × Kept (memory (now arena) (now table) k) (now frame) (now kept) ⌝ }
     ensures { λ r. ⌜ wroteAs (memory (now (arena .exit)) (now (table .exit)) (r .counters)) (r .stopped) ≡ writeLines (memory (now (arena .entry)) (now (table .entry)) k) (k .reports + 1) (reportLines (now (frame .entry))) ⌝ }
 {
+    let mut marks = [0u8; 1024];
     let mut left = k;
     let mut c = Cursor { at: 4 };
     let mut n: usize = 0;
@@ -303,7 +349,7 @@ fn write_lines(
         let hash = hashes[n];
         let name = c.name(frame, names);
         let count = c.count(frame);
-        let w = write_line(arena, table, left, name, hash, count);
+        let w = write_kept(arena, table, left, name, hash, count, kept[n], &mut marks);
         if w.stopped {
             return w;
         }
@@ -328,7 +374,7 @@ fn refused(refusal: u8, k: Counters) -> Taken
     }
 }
 
-// Refusals 8 to 12 of a sound frame; 0 for none.
+// Refusals 8 to 12 of a sound frame; 0 for none, and then what its lines keep is in `kept`.
 fn judge_report(
     arena: &[u8],
     table: &[u32],
@@ -337,9 +383,10 @@ fn judge_report(
     names: &[u8],
     hashes: &[u32],
     count: usize,
+    kept: &mut [u32],
 ) -> u8
-    requires { ⌜ (reportRefusal (now frame) ≡ 0) × Read (now frame) (now names) (now hashes) × (count ≡ length (lines (now frame))) ⌝ }
-    ensures { λ r. ⌜ r ≡ callRefusal (memory (now (arena .entry)) (now (table .entry)) k) (now (frame .entry)) ⌝ }
+    requires { ⌜ (reportRefusal (now frame) ≡ 0) × Read (now frame) (now names) (now hashes) × (count ≡ length (lines (now frame))) × (maxLines ≤ length (now kept)) ⌝ }
+    ensures { λ r. ⌜ (r ≡ callRefusal (memory (now (arena .entry)) (now (table .entry)) k) (now (frame .entry))) × (r ≡ 0 → Kept (memory (now (arena .entry)) (now (table .entry)) k) (now (frame .entry)) (now (kept .exit))) ⌝ }
 {
     if counters::are_wrong(arena, table, k) {
         return 8;
@@ -347,7 +394,7 @@ fn judge_report(
     if k.reports == 4294967295 {
         return 9;
     }
-    let plan = plan_lines(arena, table, k, frame, names, hashes, count);
+    let plan = plan_lines(arena, table, k, frame, names, hashes, count, kept);
     judge(arena, table, k, plan)
 }
 
@@ -359,14 +406,15 @@ pub fn take_report(arena: &mut [u8], table: &mut [u32], k: Counters, frame: &[u8
 {
     let mut names = [0u8; 4100];
     let mut hashes = [0u32; 820];
+    let mut kept = [0u32; 820];
     match frames::read_report(frame, &mut names, &mut hashes) {
         Report::Refused(n) => refused(n, k),
         Report::Lines(count) => {
-            let refusal = judge_report(arena, table, k, frame, &names, &hashes, count);
+            let refusal = judge_report(arena, table, k, frame, &names, &hashes, count, &mut kept);
             if refusal != 0 {
                 return refused(refusal, k);
             }
-            let w = write_lines(arena, table, k, frame, &names, &hashes);
+            let w = write_lines(arena, table, k, frame, &names, &hashes, &kept);
             let left = w.counters;
             if w.stopped {
                 return refused(13, left);

@@ -1,26 +1,26 @@
 -- The term of a head compared with a term sought, and the length behind an entry.
 -- Assumes nothing.
-use mathlib.Core.Path.{_≡_, ap}
+use mathlib.Core.Path.{_≡_}
 use mathlib.Core.Bool.{false}
 use mathlib.Core.List.{List}
 use Prim.Native.Nat.{ℕ, _+_, _-_, _≤_, _<_}
 use native.Mathlib.Omega.{arith}
 use borrow.Author.Tests.{lt-ltb, le-ltb, le-leb, lt-leb}
 use lib.Dec.{ltb}
-use lib.ListN.{length, getD, take, drop, length-take, length-drop}
+use lib.ListN.{length, getD, take, drop}
 use Rattle.basics.specs.Lists.{same}
 use Rattle.basics.proofs.Cases.{by-lt, by-eq}
 use Rattle.basics.proofs.Lists.{and-false, ne-same}
 use Rattle.terms.specs.Terms.{maxTerm}
 use Rattle.blocks.specs.Fields.{blockSize, headFixed, place, nameOf}
+use Rattle.blocks.proofs.Names.{named-length}
 use Rattle.lookup.specs.Lookup.{lengthBehind}
 
 module _ (a : List ℕ) (b : ℕ) (w : List ℕ) where
-  -- a head with a length of its own holds another term: behind its fixed bytes stand more than a term has
+  -- a head with a length of its own holds another term
   pub other-length : place b + blockSize ≤ length a → length w ≤ maxTerm → (getD a (place b + 17) 0 ≡ length w → ⊥) → same (nameOf a b) w ≡ false
-  unfolding nameOf
   other-length inside short ne =
-      ne-same (nameOf a b) w (λ e. ne (omega (arith, simp (length-take, length-drop) at (ap length e))))
+      ne-same (nameOf a b) w (λ e. ne (named-length (record { inside = inside; short = short; is = e })))
 
   -- with the same length it holds the bytes behind its fixed ones
   pub own-length : (at n : ℕ) → at ≡ place b → n ≡ length w → getD a (place b + 17) 0 ≡ length w → take n (drop (at + headFixed) a) ≡ nameOf a b

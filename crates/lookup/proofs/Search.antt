@@ -9,12 +9,13 @@ use native.Mathlib.Omega.{arith}
 use borrow.Author.Tests.{lt-ltb, le-ltb, eq-eqb, ne-eqb}
 use lib.Dec.{ltb, eqb}
 use lib.ListN.{length, getD, length-set}
+use lib.Seq.{getD-set-other}
 use Rattle.basics.specs.Lists.{same}
 use Rattle.basics.proofs.Cases.{by-lt, by-eq}
 use Rattle.basics.proofs.Lists.{same-eq, eq-same}
 use Rattle.terms.specs.Terms.{fnv1a}
 use Rattle.blocks.specs.Fields.{nameOf}
-use Rattle.lookup.specs.Lookup.{slots, nextSlot, searchFrom, search, enter, firstEntry}
+use Rattle.lookup.specs.Lookup.{slots, nextSlot, searchFrom, search, enter, firstEntry, firstHit}
 use Rattle.lookup.specs.declared.Found.{Found}
 use Rattle.lookup.specs.declared.Found.the-variants.{At, Unknown, Damaged}
 
@@ -75,6 +76,21 @@ module _ (table : List ℕ) (hash : ℕ) where
   pub first-some : 0 < slots table → firstEntry table hash ≡ getD table (hash % slots table) 0
   unfolding firstEntry
   first-some h = rw (ne-eqb (slots table) 0 (λ e. omega arith))
+
+-- entering a term into an empty slot leaves an entry that is there
+pub first-enter : (table : List ℕ) (hash s b : ℕ) → getD table s 0 ≡ 0 → 0 < firstEntry table hash → firstEntry (enter table s b) hash ≡ firstEntry table hash
+unfolding enter
+first-enter table hash s b z h =
+    by-eq (slots table) 0
+    (λ n. absurd (omega (arith, first-none table hash n)))
+    (λ n.
+    let k = hash % slots table in
+    let some : 0 < slots table = omega arith in
+    let there = first-some table hash some in
+    let other : k ≡ s → ⊥ = λ q. let e : getD table k 0 ≡ 0 = rw q z in omega arith in
+    first-some (enter table s b) hash (rw (slots-enter table s b) some)
+    ∙ rw (slots-enter table s b) (getD-set-other table s k (b + 1) 0 other)
+    ∙ sym there)
 
 -- ---- a search from a slot on
 
@@ -160,6 +176,25 @@ module _ (a : List ℕ) (used : ℕ) (table w : List ℕ) where
       go (found n m q) ih = let z : _≡_ {A = ℕ} 0 1 = cc in absurd (omega arith)
       go (passed n m q) ih = further n (ih (sym q ∙ e))
 
+-- ---- a match at the first entry
+
+module _ (b e : ℕ) where
+  pub hit-here : b + 1 ≡ e → firstHit (At b) e ≡ e
+  unfolding firstHit
+  hit-here q = rw (eq-eqb (b + 1) e q)
+
+  pub hit-other : (b + 1 ≡ e → ⊥) → firstHit (At b) e ≡ 0
+  unfolding firstHit
+  hit-other n = rw (ne-eqb (b + 1) e n)
+
+pub hit-unknown : (s e : ℕ) → firstHit (Unknown s) e ≡ 0
+unfolding firstHit
+hit-unknown s e = refl
+
+pub hit-damaged : (e : ℕ) → firstHit Damaged e ≡ 0
+unfolding firstHit
+hit-damaged e = refl
+
 -- ---- the whole search
 
 module _ (a : List ℕ) (used : ℕ) (table w : List ℕ) where
@@ -198,3 +233,17 @@ module _ (a : List ℕ) (used : ℕ) (table w : List ℕ) where
       search-some some
       ∙ from-some a used table w (slots table) (fnv1a w % slots table) some
       ∙ rw (q, ne-eqb e 0 (λ x. omega arith), lt-ltb (e - 1) used (omega arith), eq-same (nameOf a (e - 1)) w named))
+
+  -- a search that ended at its first entry: what it found
+  pub hit-found : (e : ℕ) → e ≡ firstHit (search a used table w) (firstEntry table (fnv1a w)) → 0 < e → (search a used table w ≡ At (e - 1)) × (e ≡ firstEntry table (fnv1a w))
+  hit-found e p h = go (search a used table w) refl p
+    where
+      at : (b : ℕ) → search a used table w ≡ At b → b + 1 ≡ firstEntry table (fnv1a w) → e ≡ firstEntry table (fnv1a w) → (search a used table w ≡ At (e - 1)) × (e ≡ firstEntry table (fnv1a w))
+      at b q i p =
+          let z : b ≡ e - 1 = omega arith in
+          (rw (← z) q, p)
+
+      go : (x : Found) → search a used table w ≡ x → e ≡ firstHit x (firstEntry table (fnv1a w)) → (search a used table w ≡ At (e - 1)) × (e ≡ firstEntry table (fnv1a w))
+      go (At b) q p = by-eq (b + 1) (firstEntry table (fnv1a w)) (λ i. at b q i (p ∙ hit-here b _ i)) (λ n. absurd (omega (arith, p ∙ hit-other b _ n)))
+      go (Unknown s) q p = absurd (omega (arith, p ∙ hit-unknown s _))
+      go Damaged q p = absurd (omega (arith, p ∙ hit-damaged _))

@@ -50,6 +50,12 @@ firstEntry table hash = cond (eqb (slots table) 0) 0 (getD table (hash % slots t
 unfoldable pub lengthBehind : List ℕ → ℕ → ℕ → ℕ
 lengthBehind a used e = cond (ltb 0 e && leb e used) (getD a (place (e - 1) + 17) 0) 0
 
+-- the first entry of a search that ended with a match there; 0 of any other
+unfoldable pub firstHit : Found → ℕ → ℕ
+firstHit (At b) e = cond (eqb (b + 1) e) e 0
+firstHit (Unknown s) e = 0
+firstHit Damaged e = 0
+
 -- the first `count` entries are those of the first `count` hashes
 pub record Entries (table hashes : List ℕ) (count : ℕ) (entries : List ℕ) : Type 0 where
   pub each : (i : ℕ) → i < count → getD entries i 0 ≡ firstEntry table (getD hashes i 0)

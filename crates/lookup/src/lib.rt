@@ -5,7 +5,7 @@ ghost use lib.ListN.{length};
 ghost use Rattle.basics.specs.Lists.{same};
 ghost use Rattle.terms.specs.Terms.{maxTerm, folded, fnv1a};
 ghost use Rattle.blocks.specs.Fields.{maxWord, blockSize, place, nameOf};
-ghost use Rattle.lookup.specs.Lookup.{slots, search, enter, firstEntry, lengthBehind, Entries, Lengths};
+ghost use Rattle.lookup.specs.Lookup.{slots, search, enter, firstEntry, lengthBehind, firstHit, Entries, Lengths};
 
 // What a search finds: the head's block, the empty slot where the term would go, or damage.
 pub enum Found {
@@ -157,6 +157,19 @@ pub fn find_from(
         }
     }
     find(arena, used, table, name, hash)
+}
+
+// The first entry of a search that ended with a match there; 0 of any other.
+pub fn first_hit(found: Found, entry: u32) -> u32
+    ensures { λ r. ⌜ r ≡ firstHit found entry ⌝ }
+{
+    let Found::At(b) = found else {
+        return 0;
+    };
+    if entry == 0 {
+        return 0;
+    }
+    if entry - 1 == b { entry } else { 0 }
 }
 
 // Puts a new term's head into the empty slot met.

@@ -1,7 +1,7 @@
 -- `ingest::append_line` meets its contract: the tests are of the head as it stands, which was read once, and a sound head can take a posting.
 -- Assumes nothing.
 use borrow.Author.Needs.{needs}
-use mathlib.Core.Path.{_≡_, sym, _∙_}
+use mathlib.Core.Path.{_≡_, refl, sym, _∙_}
 use mathlib.Core.Bool.{false}
 use mathlib.Core.List.{List}
 use Prim.Native.Nat.{ℕ, _<_}
@@ -15,6 +15,7 @@ use Rattle.blocks.proofs.Fields.{head-short}
 use Rattle.counters.specs.declared.Counters.{Counters}
 use Rattle.counters.specs.Counters.{Memory, memory}
 use Rattle.ingest.specs.Report.{nextNumber, lineOf, damagedHead, written}
+use Rattle.ingest.specs.Kept.{marking}
 use Rattle.ingest.proofs.Places.{Fine, head-fine, fine-appends, fine-tail, at-damaged, at-stays, at-spills}
 use Rattle.ingest.proofs.Writing.{append-damaged, append-stays, append-full, append-spills}
 use Rattle.ingest.proofs.append_line.Statement.{statement}
@@ -67,9 +68,11 @@ same-length : tie.Need-same-length
 same-length c = search needs
 
 returns : tie.Need-returns
-returns c table w =
+unfolding marking
+returns c =
     let d = c .before .before .before in
-    rw (at-damaged (a d) (k d) (f d) (h d) (tested (c .before) ∙ c .if1 .taken)) (sym (append-damaged (m d table) (nextNumber (k d)) (l d w)))
+    rw (at-damaged (a d) (k d) (f d) (h d) (tested (c .before) ∙ c .if1 .taken))
+    (λ table w. sym (append-damaged (m d table) (nextNumber (k d)) (l d w)), refl)
 
 -- a sound head can take the posting
 module _ (c : tie.Else1) where
@@ -98,18 +101,21 @@ add-to-requires c κs =
     let e = t .before .before in
     rw (d e .head-of .ensures) (appends e, fine-tail (a (d e)) (k (d e)) (h (d e)) (fine e), fitted (t .before) ∙ t .if2 .taken)
 
+mark-tail-requires : tie.Need-mark-tail-requires
+mark-tail-requires c κs = search needs
+
 same-length-2 : tie.Need-same-length-2
 same-length-2 c = search needs
 
 returns-2 : tie.Need-returns-2
-unfolding written
-returns-2 c table w =
-    let p = c .before .before in
+unfolding written marking
+returns-2 c =
+    let p = c .before .before .before .before in
     let t = p .before .before in
     let e = t .before .before in
     let o = d e in
-    rw (p .add-to .ensures, o .head-of .ensures, at-stays (a o) (k o) (f o) (h o) (sound e) (fitted (t .before) ∙ t .if2 .taken))
-    (sym (append-stays (m o table) (nextNumber (k o)) (l o w) (h o)))
+    rw (p .add-to .ensures, c .mark-tail .ensures, o .head-of .ensures, at-stays (a o) (k o) (f o) (h o) (sound e) (fitted (t .before) ∙ t .if2 .taken))
+    (λ table w. sym (append-stays (m o table) (nextNumber (k o)) (l o w) (h o)), refl)
 
 capacity-of-requires : tie.Need-capacity-of-requires
 capacity-of-requires c κs = search needs
@@ -118,13 +124,14 @@ same-length-3 : tie.Need-same-length-3
 same-length-3 c = search needs
 
 returns-3 : tie.Need-returns-3
-returns-3 c table w =
+unfolding marking
+returns-3 c =
     let full = c .before in
     let t = full .before .before in
     let e = t .before .before in
     let o = d e in
     rw (at-spills (a o) (k o) (f o) (h o) (sound e) (fitted (t .before) ∙ t .if2 .left))
-    (sym (append-full (m o table) (nextNumber (k o)) (l o w) (h o) (sym (full .capacity-of .ensures) ∙ c .if3 .taken)))
+    (λ table w. sym (append-full (m o table) (nextNumber (k o)) (l o w) (h o) (sym (full .capacity-of .ensures) ∙ c .if3 .taken)), refl)
 
 -- a block is left
 module _ (c : tie.Else3) where
@@ -143,20 +150,20 @@ join-to-requires c κs =
     let o = d (e b) in
     rw (o .head-of .ensures) (appends (e b), next-inside (a o) (k o .used) (block b), omega (arith, fine (e b) .first))
 
-add-t17 : tie.Need-add-t17
-add-t17 c = search needs
+add-t19 : tie.Need-add-t19
+add-t19 c = search needs
 
 same-length-4 : tie.Need-same-length-4
 same-length-4 c = search needs
 
 returns-4 : tie.Need-returns-4
-unfolding written
-returns-4 c table w =
+unfolding written marking
+returns-4 c =
     let j = c .before .before in
     let b = j .before .before in
     let o = d (e b) in
     rw (j .join-to .ensures, o .head-of .ensures, at-spills (a o) (k o) (f o) (h o) (sound (e b)) (fitted (t b .before) ∙ t b .if2 .left))
-    (sym (append-spills (m o table) (nextNumber (k o)) (l o w) (h o) (block b)))
+    (λ table w. sym (append-spills (m o table) (nextNumber (k o)) (l o w) (h o) (block b)), refl)
 
 pub append-line-spec : {M : Type 1} → statement M
 append-line-spec =
@@ -169,12 +176,13 @@ append-line-spec =
     returns
     fits-in-requires
     add-to-requires
+    mark-tail-requires
     same-length-2
     returns-2
     capacity-of-requires
     same-length-3
     returns-3
     join-to-requires
-    add-t17
+    add-t19
     same-length-4
     returns-4)

@@ -60,8 +60,13 @@ slice-aggregate-judge-report c = search needs
 slice-aggregate-judge-report-2 : tie.Need-slice-aggregate-judge-report-2
 slice-aggregate-judge-report-2 c = search needs
 
+slice-aggregate-judge-report-3 : tie.Need-slice-aggregate-judge-report-3
+slice-aggregate-judge-report-3 c = search needs
+
 judge-report-requires : tie.Need-judge-report-requires
-judge-report-requires c κs = let e = c .before .before .before .before .before in (sound e, r e .read-report .ensures .1 (sound e), told e .1)
+judge-report-requires c κs =
+    let e = c .before .before .before .before .before .before in
+    (sound e, r e .read-report .ensures .1 (sound e), told e .1, omega arith)
 
 refused-requires-2 : tie.Need-refused-requires-2
 refused-requires-2 c κs = search needs
@@ -75,18 +80,18 @@ same-length-2 c = search needs
 returns : tie.Need-returns
 unfolding takenOf
 returns c =
-    let j = c .before .before in
-    let e = j .before .before .before .before .before .before in
-    rw (c .refused2 .ensures, j .judge-report .ensures)
-    (answers (m (s e)) (frame (s e)) (call-refused (m (s e)) (frame (s e)) (rw (← j .judge-report .ensures) (c .before .if1 .taken))))
+    let j = c .before .before .before in
+    let e = j .before .before .before .before .before .before .before in
+    rw (c .refused2 .ensures, j .judge-report .ensures .0)
+    (answers (m (s e)) (frame (s e)) (call-refused (m (s e)) (frame (s e)) (rw (← j .judge-report .ensures .0) (c .before .if1 .taken))))
 
 -- a call that is not refused
 module _ (c : tie.Else1) where
   abbrev e : tie.After-count
-  e = c .before .before .before .before .before .before .before
+  e = c .before .before .before .before .before .before .before .before .before
 
   judges : callRefusal (m (s e)) (frame (s e)) ≡ 0
-  judges = sym (c .before .judge-report .ensures) ∙ c .if1 .left
+  judges = sym (c .before .before .judge-report .ensures .0) ∙ c .if1 .left
 
   held : HeldIn (m (s e))
   held =
@@ -99,8 +104,14 @@ slice-aggregate-write-lines c = search needs
 slice-aggregate-write-lines-2 : tie.Need-slice-aggregate-write-lines-2
 slice-aggregate-write-lines-2 c = search needs
 
+slice-aggregate-write-lines-3 : tie.Need-slice-aggregate-write-lines-3
+slice-aggregate-write-lines-3 c = search needs
+
 write-lines-requires : tie.Need-write-lines-requires
-write-lines-requires c κs = let i = c .before .before .before .before in (held i, sound (e i), r (e i) .read-report .ensures .1 (sound (e i)))
+write-lines-requires c κs =
+    let i = c .before .before .before .before .before in
+    let j = i .before .before in
+    (held i, sound (e i), r (e i) .read-report .ensures .1 (sound (e i)), omega arith, j .judge-report .ensures .1 (i .if1 .left))
 
 refused-requires-3 : tie.Need-refused-requires-3
 refused-requires-3 c κs = search needs
@@ -115,14 +126,14 @@ returns-2 : tie.Need-returns-2
 unfolding takenOf
 returns-2 c =
     let w = c .before .before .before .before .before .before .before in
-    let i = w .before .before .before .before .before in
+    let i = w .before .before .before .before .before .before in
     let k = s (e i) in
     rw (c .refused3 .ensures)
     (answers (m k) (frame k) (call-stopped (m k) (frame k) (judges i) (w .write-lines .ensures) (c .before .if2 .taken)))
 
 add-number : tie.Need-add-number
 add-number c =
-    let i = c .before .before .before .before .before .before .before .before .before .before .before .before in
+    let i = c .before .before .before .before .before .before .before .before .before .before .before .before .before in
     omega (arith, held i .room .numbered)
 
 returns-3 : tie.Need-returns-3
@@ -144,7 +155,7 @@ returns-4 : tie.Need-returns-4
 unfolding takenOf
 returns-4 c =
     let w = c .before .before .before .before .before .before .before in
-    let i = w .before .before .before .before .before in
+    let i = w .before .before .before .before .before .before in
     let k = s (e i) in
     answers (m k) (frame k) (call-taken (m k) (frame k) (judges i) (w .write-lines .ensures) (c .before .if2 .left))
 
@@ -160,6 +171,7 @@ take-report-spec =
     enum-known-count
     slice-aggregate-judge-report
     slice-aggregate-judge-report-2
+    slice-aggregate-judge-report-3
     judge-report-requires
     refused-requires-2
     same-length
@@ -167,6 +179,7 @@ take-report-spec =
     returns
     slice-aggregate-write-lines
     slice-aggregate-write-lines-2
+    slice-aggregate-write-lines-3
     write-lines-requires
     refused-requires-3
     same-length-3

@@ -1,7 +1,7 @@
 -- `ingest::write_line` meets its contract: by what the search for the line's term found.
 -- Assumes nothing.
 use borrow.Author.Needs.{needs}
-use mathlib.Core.Path.{_≡_, sym, _∙_}
+use mathlib.Core.Path.{_≡_, refl, sym, ap, _∙_}
 use Prim.Native.Nat.{ℕ}
 use denote.Ref.{now}
 use Rattle.frames.specs.Frames.{Line}
@@ -10,9 +10,9 @@ use Rattle.lookup.specs.declared.Found.{Found}
 use Rattle.lookup.specs.Lookup.{search as sought}
 use Rattle.lookup.proofs.Search.{search-at, search-unknown}
 use Rattle.counters.specs.Counters.{Memory, memory}
-use Rattle.ingest.specs.Report.{nextNumber, lineOf, placeAt, placed, placeOf}
-use Rattle.ingest.proofs.Places.{at-terms}
-use Rattle.ingest.proofs.Writing.{one-damaged, append-one}
+use Rattle.ingest.specs.Report.{nextNumber, lineOf, placed, placeOf}
+use Rattle.ingest.specs.Kept.{marking}
+use Rattle.ingest.proofs.Writing.{one-damaged, known-place, known-one}
 use Rattle.ingest.proofs.write_line.Statement.{statement}
 use Rattle.ingest.proofs.write_line.Tie as tie
 
@@ -61,7 +61,7 @@ enum-known-h c = search needs
 
 append-line-requires : tie.Need-append-line-requires
 append-line-requires c κs =
-    let i = c .before .before in
+    let i = c .before .before .before in
     let f = i .before .before in
     (s f .pre .0 .room, search-at (m f .arena) (m f .counters .used) (m f .table) (l f .term) _ (is f _ (i .h .given .1)) .below)
 
@@ -72,10 +72,10 @@ same-length-2 : tie.Need-same-length-2
 same-length-2 c = search needs
 
 returns : tie.Need-returns
-unfolding placed
+unfolding placed marking
 returns c =
     let f = c .before .before in
-    rw (at f _ (c .enum-told .given .1)) (sym (one-damaged (m f) (n f) (l f)))
+    rw (at f _ (c .enum-told .given .1)) (sym (one-damaged (m f) (n f) (l f)), refl)
 
 same-length-3 : tie.Need-same-length-3
 same-length-3 c = search needs
@@ -84,11 +84,11 @@ same-length-4 : tie.Need-same-length-4
 same-length-4 c = search needs
 
 returns-2 : tie.Need-returns-2
-unfolding placed
+unfolding placed marking
 returns-2 c =
     let o = c .before .before .before .before in
     let i = o .before .before .before .before in
-    rw (at (i .before .before) _ (i .slot .given .1)) (o .open-line .ensures)
+    rw (at (i .before .before) _ (i .slot .given .1)) (o .open-line .ensures, refl)
 
 same-length-5 : tie.Need-same-length-5
 same-length-5 c = search needs
@@ -97,14 +97,14 @@ same-length-6 : tie.Need-same-length-6
 same-length-6 c = search needs
 
 returns-3 : tie.Need-returns-3
-unfolding placed
 returns-3 c =
     let o = c .before .before in
-    let i = o .before .before .before in
+    let i = o .before .before .before .before in
     let f = i .before .before in
-    let p = placeAt (m f .arena) (m f .counters) (l f .count) (i .h .given .0 .0) in
-    let known = append-one (m f) (n f) (l f) p (s f .pre .0 .few) (at-terms (m f .arena) (m f .counters) (l f .count) (i .h .given .0 .0)) in
-    rw (at f _ (i .h .given .1), ← known) (o .append-line .ensures (m f .table) (l f .term))
+    let q = is f _ (i .h .given .1) in (
+      o .append-line .ensures .0 (m f .table) (l f .term) ∙ known-one (m f) (l f) _ q (n f) (s f .pre .0 .few),
+      o .append-line .ensures .1 ∙ ap (marking (m f .arena) (now (s f .args .marks))) (sym (known-place (m f) (l f) _ q)),
+    )
 
 pub write-line-spec : {M : Type 1} → statement M
 write-line-spec =
