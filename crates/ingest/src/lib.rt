@@ -7,7 +7,7 @@ ghost use Rattle.terms.specs.Terms.{maxTerm, fnv1a};
 ghost use Rattle.frames.specs.Frames.{maxBody, lines, reportRefusal, reportLines};
 ghost use Rattle.frames.specs.Read.{maxLines, Read};
 ghost use Rattle.frames.specs.Refusals.{firstOf};
-ghost use Rattle.blocks.specs.Fields.{maxWord};
+ghost use Rattle.blocks.specs.Fields.{maxWord, place};
 ghost use Rattle.lookup.specs.declared.Found.the-variants.{At};
 ghost use Rattle.lookup.specs.Lookup.{slots, search};
 ghost use Rattle.counters.specs.Counters.{memory};
@@ -279,33 +279,31 @@ fn open_line(
     }
 }
 
-// One line, judged afresh when its turn comes: its term is looked up again.
-fn write_line(
-    arena: &mut [u8],
-    table: &mut [u32],
-    k: Counters,
+// Looks a line's term up again at its turn. The head that a kept entry leads to still holds the term unless it is marked, so that the search is left
+// out there.
+fn find_again(
+    arena: &[u8],
+    used: u32,
+    table: &[u32],
     name: &[u8],
     hash: u32,
-    count: u32,
-    marks: &mut [u8; 1024],
-) -> Written
-    requires { ⌜ Held (now arena) (now table) k × (length (now name) ≤ maxTerm) × (hash ≡ fnv1a (now name)) ⌝ }
-    ensures { λ r. ⌜ (wroteAs (memory (now (arena .exit)) (now (table .exit)) (r .counters)) (r .stopped) ≡ writeOne (memory (now (arena .entry)) (now (table .entry)) k) (k .reports + 1) (lineOf (now (name .entry)) count) (placeOf (memory (now (arena .entry)) (now (table .entry)) k) (lineOf (now (name .entry)) count)))
-        × (now (marks .exit) ≡ marking (now (arena .entry)) (now (marks .entry)) (placeOf (memory (now (arena .entry)) (now (table .entry)) k) (lineOf (now (name .entry)) count))) ⌝ }
+    entry: u32,
+    marks: &[u8; 1024],
+) -> Found
+    requires { ⌜ (place used ≤ length (now arena)) × (length (now name) ≤ maxTerm) × (hash ≡ fnv1a (now name)) × (0 < entry → getD (now marks) (markOf (entry - 1)) 0 ≡ 0 → search (now arena) used (now table) (now name) ≡ At (entry - 1)) ⌝ }
+    ensures { λ r. ⌜ r ≡ search (now (arena .entry)) used (now (table .entry)) (now (name .entry)) ⌝ }
 {
-    match lookup::find(arena, k.used, table, name, hash) {
-        Found::Damaged => Written {
-            stopped: true,
-            counters: k,
-        },
-        Found::Unknown(slot) => open_line(arena, table, k, name, count, slot),
-        Found::At(h) => append_line(arena, k, h, count, marks),
+    if 0 < entry {
+        let h = entry - 1;
+        if marks[(h % 1024) as usize] == 0 {
+            return Found::At(h);
+        }
     }
+    lookup::find(arena, used, table, name, hash)
 }
 
-// The same for a line whose first entry may have been kept. The head that it leads to still holds the term unless it is marked, so the term is
-// looked up again only where that is so or nothing was kept.
-fn write_kept(
+// One line, judged afresh when its turn comes.
+fn write_line(
     arena: &mut [u8],
     table: &mut [u32],
     k: Counters,
@@ -319,13 +317,14 @@ fn write_kept(
     ensures { λ r. ⌜ (wroteAs (memory (now (arena .exit)) (now (table .exit)) (r .counters)) (r .stopped) ≡ writeOne (memory (now (arena .entry)) (now (table .entry)) k) (k .reports + 1) (lineOf (now (name .entry)) count) (placeOf (memory (now (arena .entry)) (now (table .entry)) k) (lineOf (now (name .entry)) count)))
         × (now (marks .exit) ≡ marking (now (arena .entry)) (now (marks .entry)) (placeOf (memory (now (arena .entry)) (now (table .entry)) k) (lineOf (now (name .entry)) count))) ⌝ }
 {
-    if 0 < entry {
-        let h = entry - 1;
-        if marks[(h % 1024) as usize] == 0 {
-            return append_line(arena, k, h, count, marks);
-        }
+    match find_again(arena, k.used, table, name, hash, entry, marks) {
+        Found::Damaged => Written {
+            stopped: true,
+            counters: k,
+        },
+        Found::Unknown(slot) => open_line(arena, table, k, name, count, slot),
+        Found::At(h) => append_line(arena, k, h, count, marks),
     }
-    write_line(arena, table, k, name, hash, count, marks)
 }
 
 // The lines in frame order, each judged afresh when its turn comes.
@@ -349,7 +348,7 @@ fn write_lines(
         let hash = hashes[n];
         let name = c.name(frame, names);
         let count = c.count(frame);
-        let w = write_kept(arena, table, left, name, hash, count, kept[n], &mut marks);
+        let w = write_line(arena, table, left, name, hash, count, kept[n], &mut marks);
         if w.stopped {
             return w;
         }

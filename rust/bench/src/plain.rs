@@ -237,6 +237,11 @@ impl Head {
 /// Writes the fields of a head that a posting changes.
 fn put_changing(block: &mut Block, tail: u32, last: u32, postings: u32, end: usize) {
     put_word(block, 4, tail);
+    put_growing(block, last, postings, end);
+}
+
+/// Those that it changes where it stays in the tail.
+fn put_growing(block: &mut Block, last: u32, postings: u32, end: usize) {
     put_word(block, 8, last);
     put_word(block, 12, postings);
     block[16] = end as u8;
@@ -301,29 +306,58 @@ fn take(
     }
     check_counters(blocks, table, counters)?;
     let number = counters.reports.checked_add(1).ok_or(9)?;
-    ask_ahead(blocks, table, counters, &read.lines);
+    let mut kept = ask_ahead(blocks, table, counters, &read.lines);
     let (mut terms, mut needed) = (0, 0);
-    for line in &read.lines {
-        match place_of(blocks, table, counters, line, read.term(line)).ok_or(10)? {
+    for (line, entry) in read.lines.iter().zip(&mut kept) {
+        let place = place_of(blocks, table, counters, line, read.term(line)).ok_or(10)?;
+        match place {
             Place::New(_) => (terms, needed) = (terms + 1, needed + 1),
             Place::Spills(..) => needed += 1,
             Place::Stays(..) => {}
         }
+        if let Place::New(_) = place {
+            *entry = 0;
+        } else if let Place::Stays(head, _) | Place::Spills(head, _) = place {
+            if head + 1 != *entry {
+                *entry = 0;
+            }
+        }
     }
     check_room(blocks, table, counters, terms, needed)?;
-    for line in &read.lines {
-        write_line(blocks, table, counters, number, line, read.term(line))?;
+    let mut marks = [false; MARKS];
+    for (line, entry) in read.lines.iter().zip(&kept) {
+        // A head that no posting was put into as another's tail still holds the term found there.
+        let place = if *entry != 0 && !marks[(*entry - 1) as usize % MARKS] {
+            place_at(blocks, counters, *entry - 1, line.count)
+        } else {
+            place_of(blocks, table, counters, line, read.term(line))
+        };
+        let term = read.term(line);
+        write_line(
+            blocks,
+            table,
+            counters,
+            number,
+            line,
+            term,
+            place.ok_or(13)?,
+            &mut marks,
+        )?;
     }
     counters.reports = number;
     Ok(number)
 }
 
+/// How many marks there are for the tails that were written to in a report.
+const MARKS: usize = 1024;
+
 /// Reads the first slot of every line, and then every head behind them, before the first line is
-/// looked up: these reads miss the caches, and in this way they overlap.
-fn ask_ahead(blocks: &[Block], table: &[u32], counters: &Counters, lines: &[Line]) {
+/// looked up: these reads miss the caches, and in this way they overlap. Gives the entries of the
+/// slots.
+fn ask_ahead(blocks: &[Block], table: &[u32], counters: &Counters, lines: &[Line]) -> Vec<u32> {
     let slots = slots(table);
     if slots == 0 {
-        return;
+        return vec![0; lines.len()];
     }
     let entry = |line: &Line| table[(line.hash % slots) as usize];
     let entries: Vec<u32> = lines.iter().map(entry).collect();
@@ -338,6 +372,7 @@ fn ask_ahead(blocks: &[Block], table: &[u32], counters: &Counters, lines: &[Line
         .fold(0, |any: u8, byte| any | byte);
     // Without a use the compiler would leave the reads out.
     std::hint::black_box(any);
+    entries
 }
 
 fn capacity(blocks: &[Block]) -> u32 {
@@ -417,11 +452,15 @@ fn place_of(
     line: &Line,
     term: &[u8],
 ) -> Option<Place> {
+    match find(blocks, table, counters.used, line.hash, term)? {
+        Ok(head) => place_at(blocks, counters, head, line.count),
+        Err(slot) => Some(Place::New(slot)),
+    }
+}
+
+/// The same for a line whose term's head is known.
+fn place_at(blocks: &[Block], counters: &Counters, number: u32, count: u32) -> Option<Place> {
     let Counters { used, reports, .. } = *counters;
-    let number = match find(blocks, table, used, line.hash, term)? {
-        Ok(head) => head,
-        Err(slot) => return Some(Place::New(slot)),
-    };
     let head = Head::of(&blocks[number as usize]);
     if !head.is_in_place(number, used) || head.last > reports || head.postings > reports {
         return None;
@@ -431,14 +470,16 @@ fn place_of(
     }
     // A code has at most 10 bytes, so that its length matters only near the block's end.
     let fits = head.end <= BLOCK_BYTES - 10
-        || head.end + code_length(reports + 1 - head.last, line.count) <= BLOCK_BYTES;
+        || head.end + code_length(reports + 1 - head.last, count) <= BLOCK_BYTES;
     if fits {
         return Some(Place::Stays(number, head));
     }
     Some(Place::Spills(number, head))
 }
 
-/// Judges a line afresh and writes it, or gives refusal 13.
+/// Writes a line that was judged afresh, or gives refusal 13; marks the tail that it was put into.
+#[allow(clippy::too_many_arguments)]
+#[inline(always)]
 fn write_line(
     blocks: &mut [Block],
     table: &mut [u32],
@@ -446,14 +487,19 @@ fn write_line(
     number: u32,
     line: &Line,
     term: &[u8],
+    place: Place,
+    marks: &mut [bool; MARKS],
 ) -> Result<(), u8> {
     let next = counters.used;
-    match place_of(blocks, table, counters, line, term).ok_or(13)? {
+    match place {
         Place::Stays(h, head) => {
             let tail = &mut blocks[head.tail as usize];
             let end = put_posting(tail, head.end, number - head.last, line.count);
             let block = &mut blocks[h as usize];
-            put_changing(block, head.tail, number, head.postings + 1, end);
+            put_growing(block, number, head.postings + 1, end);
+            if head.tail != h {
+                marks[head.tail as usize % MARKS] = true;
+            }
         }
         Place::Spills(h, head) => {
             check_room(blocks, table, counters, 0, 1).map_err(|_| 13)?;
@@ -696,9 +742,7 @@ fn gap_of(byte: u8, before: u8, earlier: u8) -> u8 {
 /// bytes before it do not tell.
 #[inline(always)]
 fn mark_of(byte: u8, before: u8, earlier: u8) -> u8 {
-    let unfit = byte == 0
-        || byte > 127
-        || (byte % 4 == 0 && before % 4 == 0 && earlier % 4 == 0);
+    let unfit = byte == 0 || byte > 127 || (byte % 4 == 0 && before % 4 == 0 && earlier % 4 == 0);
     match (unfit, before % 4 == 0 && earlier % 4 != 0) {
         (true, _) => 64,
         (false, true) => 0,
@@ -724,6 +768,9 @@ fn read_rows(block: &Block) -> Option<(u32, u32)> {
     let postings = total(marks);
     (postings < 64).then(|| (total(gaps), postings))
 }
+
+/// The bit of a window's first report.
+const HIGHEST: u64 = 1 << 63;
 
 /// A place in a chain that was found sound, so that nothing is judged again.
 #[derive(Clone, Copy)]
@@ -827,6 +874,23 @@ impl<'a> Cursor<'a> {
         true
     }
 
+    /// Goes on to the first posting at or past `to` and marks the reports on the way, up to `to`, that
+    /// are marked among others; gives the marks and the last report marked.
+    #[inline(always)]
+    fn mark(&mut self, base: u32, to: u32, among: u64) -> (u64, u32) {
+        let (mut mask, mut last) = (0, base);
+        loop {
+            if self.number <= to {
+                let bit = among & (HIGHEST >> (self.number - base));
+                mask |= bit;
+                last = if bit == 0 { last } else { self.number };
+            }
+            if self.number >= to || !self.advance() {
+                return (mask, last);
+            }
+        }
+    }
+
     /// Goes on to the next block where that one's first number is not over `number`.
     #[inline(always)]
     fn pass_block(&mut self, number: u32) -> bool {
@@ -865,40 +929,41 @@ fn fill_one(
     answer(0, true, places)
 }
 
-/// The cursor of the rarest term gives a number, which every other cursor goes on to.
+/// Lists window by window: 64 reports, each a bit, the first the highest. The rarest chain marks its
+/// reports, every other one keeps those that it holds too.
 fn fill_all(blocks: &[Block], mut named: Named, numbers: &mut [u32]) -> ListAnswer {
     let heads = &mut named.heads[..named.count];
     heads.sort_unstable_by_key(|head| word(&blocks[*head as usize], 12));
     let cursors = heads.iter().map(|head| Cursor::at_first(blocks, *head));
     let mut cursors: Vec<Cursor> = cursors.collect();
-    let (first, others) = cursors.split_first_mut().expect("a query names a term");
     let mut filled = 0;
-    let mut sought = named.start;
-    while first.seek(sought) {
-        sought = first.number;
-        let mut held = true;
-        for other in others.iter_mut() {
-            if !other.seek(sought) {
-                return answer(0, false, filled);
-            }
-            if other.number > sought {
-                // No report before this one holds all terms.
-                sought = other.number;
-                held = false;
+    let mut base = named.start.max(1);
+    loop {
+        let mut to = base.saturating_add(63);
+        let mut next = u64::from(to) + 1;
+        let mut mask = u64::MAX;
+        for cursor in &mut cursors {
+            if mask == 0 {
                 break;
             }
+            if !cursor.seek(base) {
+                return answer(0, false, filled);
+            }
+            (mask, to) = cursor.mark(base, to, mask);
+            next = next.max(u64::from(cursor.number));
         }
-        if held {
+        while mask != 0 {
+            let first = mask.leading_zeros();
             if filled == numbers.len() {
                 return answer(0, true, filled);
             }
-            numbers[filled] = sought;
+            numbers[filled] = base + first;
             filled += 1;
-            sought = match sought.checked_add(1) {
-                Some(next) => next,
-                None => return answer(0, false, filled),
-            };
+            mask ^= HIGHEST >> first;
+        }
+        match u32::try_from(next) {
+            Ok(next) => base = next,
+            Err(_) => return answer(0, false, filled),
         }
     }
-    answer(0, false, filled)
 }

@@ -16,15 +16,15 @@ use Rattle.ingest.proofs.Writing.{one-damaged, known-place, known-one}
 use Rattle.ingest.proofs.write_line.Statement.{statement}
 use Rattle.ingest.proofs.write_line.Tie as tie
 
-find-requires : tie.Need-find-requires
-find-requires c κs =
-    let s = c .before .before .before .before .before in
-    (used-inside (now (s .args .arena)) (s .args .k .used) (s .pre .0 .room .inside), s .pre .1, s .pre .2)
+find-again-requires : tie.Need-find-again-requires
+find-again-requires c κs =
+    let s = c .before .before .before .before .before .before in
+    (used-inside (now (s .args .arena)) (s .args .k .used) (s .pre .0 .room .inside), s .pre .1, s .pre .2, s .pre .3)
 
 -- the line
-module _ (c : tie.After-find) where
+module _ (c : tie.After-find-again) where
   abbrev s : tie.Start
-  s = c .before .before .before .before .before .before
+  s = c .before .before .before .before .before .before .before
 
   abbrev m : Memory
   m = memory (now (s .args .arena)) (now (s .args .table)) (s .args .k)
@@ -36,11 +36,11 @@ module _ (c : tie.After-find) where
   l = lineOf (now (s .args .name)) (s .args .count)
 
   -- what was found
-  is : (x : Found) → c .find .result ≡ x → sought (m .arena) (m .counters .used) (m .table) (l .term) ≡ x
-  is x e = sym (c .find .ensures) ∙ e
+  is : (x : Found) → c .find-again .result ≡ x → sought (m .arena) (m .counters .used) (m .table) (l .term) ≡ x
+  is x e = sym (c .find-again .ensures) ∙ e
 
   -- and the place that it leads to
-  at : (x : Found) → c .find .result ≡ x → placeOf m l ≡ placed (m .arena) (m .counters) (l .count) x
+  at : (x : Found) → c .find-again .result ≡ x → placeOf m l ≡ placed (m .arena) (m .counters) (l .count) x
   unfolding placeOf
   at x e = rw (is x e)
 
@@ -110,7 +110,7 @@ pub write-line-spec : {M : Type 1} → statement M
 write-line-spec =
     tie.close
     (tie.spec
-    find-requires
+    find-again-requires
     enum-told
     enum-known-slot
     open-line-requires

@@ -101,16 +101,16 @@ module _ (n : tie.After-count Inv-loop μ-loop) where
       let a = s t .args in
       kept-nth (memory (now (a .arena)) (now (a .table)) (a .k)) (frame t) (now (a .kept)) (l t .loop .n) (at t) (s t .pre .4) (nth t) ∙ ap (keptOf _) (sym line-is)
 
-mul-write-kept : tie.Need-mul-write-kept Inv-loop μ-loop
-mul-write-kept c = let i = t (c .before .before) in omega (arith, l i .loop .inv .2, small i)
+mul-write-line : tie.Need-mul-write-line Inv-loop μ-loop
+mul-write-line c = let i = t (c .before .before) in omega (arith, l i .loop .inv .2, small i)
 
-shared-slice-read-write-kept : tie.Need-shared-slice-read-write-kept Inv-loop μ-loop
-shared-slice-read-write-kept c =
+shared-slice-read-write-line : tie.Need-shared-slice-read-write-line Inv-loop μ-loop
+shared-slice-read-write-line c =
     let i = t (c .before .before .before) in
     omega (arith, rest-in (lines (frame i)) (l i .loop .n) (nth i), s i .pre .2 .few, s i .pre .3)
 
-write-kept-requires : tie.Need-write-kept-requires Inv-loop μ-loop
-write-kept-requires c κs =
+write-line-requires : tie.Need-write-line-requires Inv-loop μ-loop
+write-line-requires c κs =
     let n = c .before .before .before .before in
     let i = t n in (
       l i .loop .inv .0 .held,
@@ -121,7 +121,7 @@ write-kept-requires c κs =
 
 -- the line that was written, or stopped
 module _ (c : tie.After-slice-known4 Inv-loop μ-loop) where
-  abbrev w : tie.After-write-kept Inv-loop μ-loop
+  abbrev w : tie.After-write-line Inv-loop μ-loop
   w = c .before .before .before .before
 
   abbrev n : tie.After-count Inv-loop μ-loop
@@ -137,7 +137,7 @@ returns : tie.Need-returns Inv-loop μ-loop
 returns c =
     let i = c .before in
     let o = t (n i) in
-    wrote-stop (l o .loop .inv .0) (o .if1 .taken) (line-is (n i)) (w i .write-kept .ensures .0) (c .if2 .taken)
+    wrote-stop (l o .loop .inv .0) (o .if1 .taken) (line-is (n i)) (w i .write-line .ensures .0) (c .if2 .taken)
 
 add-n : tie.Need-add-n Inv-loop μ-loop
 add-n c = let i = t (n (c .before .before)) in omega (arith, l i .loop .inv .2, small i)
@@ -157,12 +157,12 @@ loop-again c =
     let i = n (e .before) in
     let v = l (t i) .loop .inv in
     let h = t i .if1 .taken in
-    rw (c .past .ensures, o .write-kept .ensures .1) (
-      wrote-more (v .0) h (line-is i) (o .write-kept .ensures .0) (e .if2 .left),
+    rw (c .past .ensures, o .write-line .ensures .1) (
+      wrote-more (v .0) h (line-is i) (o .write-line .ensures .0) (e .if2 .left),
       hash-on (frame (t i)) (at (t i)) (v .1) h,
       omega (arith, v .2, past-more countBytes (frame (t i)) (at (t i))),
       rest-next (lines (frame (t i))) (l (t i) .loop .n) (nth (t i)),
-      lasts-more (v .4) (line i) (o .write-kept .ensures .0),
+      lasts-more (v .4) (line i) (o .write-line .ensures .0),
     )
 
 same-length-3 : tie.Need-same-length-3 Inv-loop μ-loop
@@ -185,9 +185,9 @@ write-lines-spec =
     shared-slice-read-hash
     name-requires
     count-requires
-    mul-write-kept
-    shared-slice-read-write-kept
-    write-kept-requires
+    mul-write-line
+    shared-slice-read-write-line
+    write-line-requires
     same-length
     same-length-2
     returns
