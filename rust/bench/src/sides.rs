@@ -1,12 +1,16 @@
 //! The two implementations over the same bytes: the proved library and plain Rust.
 
+use std::ops::Range;
+
 use report_index::calls::Calls;
 use report_index::{Counters, BLOCK_BYTES};
 
 /// One implementation, with an index of its own.
 pub struct Side {
-    /// The arena.
-    pub arena: Vec<u8>,
+    /// Memory with the arena in it, from the first multiple of 64 bytes on, so that each block lies in
+    /// one line of the caches.
+    memory: Vec<u8>,
+    arena: Range<usize>,
     /// The table.
     pub table: Vec<u32>,
     /// The counters.
@@ -18,12 +22,19 @@ impl Side {
     /// An implementation with an arena of so many blocks and a table of so many slots. Every byte is
     /// written once, so that no page is missing when the clock runs.
     pub fn new(calls: Calls, blocks: usize, slots: usize) -> Side {
+        let memory = vec![0xEE; (blocks + 1) * BLOCK_BYTES];
+        let from = memory.as_ptr().align_offset(BLOCK_BYTES);
         Side {
-            arena: vec![0xEE; blocks * BLOCK_BYTES],
+            arena: from..from + blocks * BLOCK_BYTES,
+            memory,
             table: vec![0xEE; slots],
             counters: Counters::default(),
             calls,
         }
+    }
+
+    fn arena(&self) -> &[u8] {
+        &self.memory[self.arena.clone()]
     }
 
     /// Starts the index.
@@ -33,9 +44,9 @@ impl Side {
 
     /// Takes all reports.
     pub fn ingest(&mut self, frames: &[Vec<u8>]) {
+        let arena = &mut self.memory[self.arena.clone()];
         for frame in frames {
-            let answer =
-                (self.calls.report)(&mut self.arena, &mut self.table, &mut self.counters, frame);
+            let answer = (self.calls.report)(arena, &mut self.table, &mut self.counters, frame);
             assert_eq!(answer.refusal, 0, "a report of the workload is refused");
         }
     }
@@ -44,7 +55,7 @@ impl Side {
     /// one term only.
     pub fn list(&self, frame: &[u8], lists: &mut Lists) -> usize {
         let Lists { numbers, counts } = lists;
-        let (arena, table, counters) = (&self.arena, &self.table, &self.counters);
+        let (arena, table, counters) = (self.arena(), &self.table, &self.counters);
         let answer = match counts {
             Some(counts) => (self.calls.list_one)(arena, table, counters, frame, numbers, counts),
             None => (self.calls.list_all)(arena, table, counters, frame, numbers),
@@ -59,7 +70,7 @@ impl Side {
 
     /// Fails unless both sides left the same bytes, entries and counters.
     pub fn assert_same(&self, other: &Side) {
-        assert!(self.arena == other.arena, "the arenas differ");
+        assert!(self.arena() == other.arena(), "the arenas differ");
         assert!(self.table == other.table, "the tables differ");
         assert_eq!(self.counters, other.counters);
     }
