@@ -2,6 +2,7 @@
  *
  * The caller lends all memory: an arena of bytes (64 to a block), a table of 32-bit entries, three counters, a frame, and for listings
  * 32-bit result lists. A pointer is followed by the number of elements behind it; the memory must not overlap. Nothing is kept between calls.
+ * An arena that begins at a multiple of 64 bytes is read a little faster; it need not.
  * A refusal is a number from 1 to 13 (document 01, "Where each refusal is checked"); 0 means that there was none.
  */
 #ifndef REPORT_INDEX_H

@@ -54,7 +54,8 @@ pub use index::Index;
 pub use raw::Counters;
 pub use refusal::Refusal;
 
-/// The bytes of a block. An arena of fewer bytes holds nothing.
+/// The bytes of a block. An arena of fewer bytes holds nothing; one that begins at a multiple of this
+/// many is read a little faster.
 pub const BLOCK_BYTES: usize = 64;
 
 /// What a listing did.
