@@ -6,7 +6,8 @@ use mathlib.Core.Bool.{Bool, true, false, cond, true≢false}
 use native.Mathlib.Omega.{arith}
 use native.Mathlib.Nat.{add-mul-div-right, div-eq-of-lt, one-mul, zero-mul, mod-eq-of-lt, le-div-iff-mul-le, div-lt-iff-lt-mul, pow-suc, mod-lt}
 use lib.Dec.{eqb}
-use lib.Pow.{pow-add, pow-pos, pow-mono, pow-lt, shr-shr, high, ones-split, ones-lt}
+use lib.Pow.{pow-add, pow-pos, pow-mono, pow-lt, shl-shr, shr-shr, high, ones-split, ones-lt, high-ones}
+use lib.Bits.{bitAnd, and-high}
 use lib.Count.{leadingZeros, leading-top}
 use borrow.Author.Tests.{eqb-true, eqb-false, eq-eqb, ne-eqb, le-leb, lt-leb}
 use Rattle.basics.proofs.Cases.{by-lt, by-eq}
@@ -121,6 +122,15 @@ top-bit m j l h =
 
 above-bit : (m s : ℕ) → m < 2 ^ s → bit m s ≡ 0
 above-bit m s h = ap (λ (x : ℕ). x % 2) (div-eq-of-lt h)
+
+-- the highest of 64 bits shifted down, and the one bit that a mask of one bit leaves
+top-down : (d : ℕ) → d < 64 → 9223372036854775808 / 2 ^ d ≡ 2 ^ (63 - d)
+top-down d h =
+    let f : 63 - d + d ≡ 63 = omega arith in
+    ap (λ (x : ℕ). 2 ^ x / 2 ^ d) (sym f) ∙ ap (λ (x : ℕ). x / 2 ^ d) (pow-add 2 (63 - d) d) ∙ shl-shr (2 ^ (63 - d)) d
+
+and-bit : (m s : ℕ) → bitAnd m (2 ^ s) ≡ bit m s * 2 ^ s
+and-bit m s = ap (bitAnd m) (sym (high-ones 1 s ∙ one-mul (2 ^ s))) ∙ and-high m 1 s
 
 -- ---- the mark of a report is its bit
 
@@ -271,15 +281,13 @@ settled-later base n n′ m h s =
 
 -- ---- the bit of a report, and the first report marked
 
-pub bit-among : (base among n : ℕ) → (among / 2 ^ (63 - (n - base)) % 2) * 2 ^ (63 - (n - base)) % 18446744073709551616 ≡ cond (isMarked among base n) (bitOf base n) 0
+pub bit-among : (base among n : ℕ) → In base n → bitAnd among (9223372036854775808 / 2 ^ (n - base)) ≡ cond (isMarked among base n) (bitOf base n) 0
 unfolding bitOf
-bit-among base among n = go (isMarked among base n) refl
+bit-among base among n h = ap (bitAnd among) (top-down (n - base) (omega arith)) ∙ and-bit among (place base n) ∙ go (isMarked among base n) refl
   where
-    go : (x : Bool) → isMarked among base n ≡ x → (bit among (place base n) * 2 ^ place base n) % 18446744073709551616 ≡ cond x (2 ^ place base n) 0
-    go true e =
-        ap (λ (x : ℕ). (x * 2 ^ place base n) % 18446744073709551616) (bit-yes among base n e) ∙ ap (λ (x : ℕ). x % 18446744073709551616) (one-mul (2 ^ place base n))
-        ∙ mod-eq-of-lt (pow-lt (place-lt base n))
-    go false e = ap (λ (x : ℕ). (x * 2 ^ place base n) % 18446744073709551616) (bit-no among base n e) ∙ ap (λ (x : ℕ). x % 18446744073709551616) (zero-mul (2 ^ place base n))
+    go : (x : Bool) → isMarked among base n ≡ x → bit among (place base n) * 2 ^ place base n ≡ cond x (2 ^ place base n) 0
+    go true e = ap (λ (x : ℕ). x * 2 ^ place base n) (bit-yes among base n e) ∙ one-mul (2 ^ place base n)
+    go false e = ap (λ (x : ℕ). x * 2 ^ place base n) (bit-no among base n e) ∙ zero-mul (2 ^ place base n)
 
 -- the first report marked stands as far behind the window's first as the number has leading zeros
 pub first-marked : (mask : ℕ) → 0 < mask → mask < 2 ^ 64
