@@ -1,7 +1,7 @@
 -- A part that is added up whatever reports there are: where its last number is at most reports, that is what reading on passes.
 -- Assumes nothing.
 use Prim.Native.Nat.{ℕ, zero, suc, _+_, _≤_}
-use mathlib.Core.Path.{_≡_, refl, sym, ap, _∙_}
+use mathlib.Core.Path.{_≡_, sym, ap, _∙_}
 use mathlib.Core.List.{List}
 use mathlib.Core.Logic.{_⊎_, inl, inr}
 use native.Mathlib.Omega.{arith}
@@ -41,8 +41,8 @@ module _ (part : List ℕ) (reports : ℕ) where
 
   -- where the last number is at most reports all are
   passes : (k : ℕ) (p : Sum) → add k p .number ≤ reports → passFrom k part reports reports (asPassed p) ≡ asPassed (add k p)
-  unfolding addFrom passFrom goes
-  passes zero p h = refl
+  unfolding passFrom goes
+  passes zero p h = sym (ap asPassed (sums.add-none part (length part) p))
   passes (suc k) p h = go (sums.adds-or-ends part (length part) p) h (λ q. passes k q)
     where
       go : Case p → add (suc k) p .number ≤ reports
@@ -58,5 +58,6 @@ module _ (part : List ℕ) (reports : ℕ) where
 
 pub added-passed : (part : List ℕ) (reports at number : ℕ) → addedTo part (length part) (sumOf at number) .number ≤ reports
     → asPassed (addedTo part (length part) (sumOf at number)) ≡ passed part reports at number reports
-unfolding addedTo passed
-added-passed part reports at number h = sym (passes part reports (length part) (sumOf at number) h)
+unfolding passed
+added-passed part reports at number h =
+    let e = sums.added-is part (length part) (sumOf at number) in ap asPassed e ∙ sym (passes part reports (length part) (sumOf at number) (rw (← e) h))

@@ -267,3 +267,8 @@ pub is-whole : (r : Reading) → isWhole r ≡ true → (ps : List Posting) × (
 unfolding isWhole
 is-whole damaged e = let z : _≡_ {A = ℕ} 0 1 = cc in absurd (omega arith)
 is-whole (whole ps) e = (ps, refl)
+
+-- and such a list is read whole
+pub whole-is : {r : Reading} {ps : List Posting} → r ≡ whole ps → isWhole r ≡ true
+unfolding isWhole
+whole-is e = ap isWhole e

@@ -8,7 +8,7 @@ use native.Mathlib.Omega.{arith}
 use native.Mathlib.Numerals.{add-one}
 use lib.Dec.{leb, eqb}
 use lib.ListN.{length, getD, take, drop, length-drop}
-use lib.Seq.{length-take-le, take-length, drop-cons, drop-drop}
+use lib.Seq.{length-take-le, drop-cons, drop-drop}
 use borrow.Author.Tests.{lt-leb, eq-eqb, ne-eqb, leb-true, eqb-true}
 use Rattle.basics.proofs.Cases.{by-lt, by-eq}
 use Rattle.basics.proofs.Parts.{drop-take}
@@ -17,11 +17,12 @@ use Rattle.postings.specs.declared.Decoded.{Decoded}
 use Rattle.postings.specs.declared.Decoded.the-variants as code
 use Rattle.postings.proofs.Laws.{Held, decoded-held, decoded-nil, decoded-null}
 use Rattle.blocks.specs.Fields.{blockSize, linkSize, place, linkOf, partOf}
+use Rattle.sums.proofs.Adding.{bounded-on}
 use Rattle.chains.specs.declared.Cursor.{Cursor}
 use Rattle.chains.specs.declared.Passed.{Passed}
 use Rattle.chains.specs.declared.Step.the-variants as step
 use Rattle.chains.specs.Chains.{partEnd, exhausted, given, readAt, entered, nextBlock, stepAt, Follows}
-use Rattle.chains.specs.Parts.{behind, passed, movedTo, passedTo, InPart}
+use Rattle.chains.specs.Parts.{behind, passed, movedTo, passedTo, InPart, Known}
 use Rattle.chains.proofs.Steps.{part-end-le, part-end-ge, not-exhausted, part-within, given-none, given-over, given-at, given-is, read-gave, next-none, next-out, next-at, step-empty, step-end, step-next, step-here}
 use Rattle.chains.proofs.Laws.{step-follows}
 use Rattle.chains.proofs.Passing.{Goes, Stopped, at-end, arrived, no-posting, over, pass-keeps}
@@ -41,9 +42,6 @@ module _ (a : List ℕ) (b to start e : ℕ) (p : start ≡ place b) (q : e ≡ 
   pub part-at : (at : ℕ) → drop at bytes ≡ partOf a b at to
   unfolding partOf
   part-at at = ap (drop at) as-place ∙ drop-take at to (drop (place b) a) ∙ ap (take (to - at)) (drop-drop at (place b) a)
-
-  pub part-from : (at : ℕ) → take (length bytes - at) (drop at bytes) ≡ partOf a b at to
-  part-from at = rw (← length-drop at bytes) (take-length (drop at bytes)) ∙ part-at at
 
 -- the same of a whole part
 module _ (a : List ℕ) (b e : ℕ) where
@@ -129,6 +127,13 @@ module _ {a : List ℕ} {reports : ℕ} {c : Cursor} (w : InPart a reports c) (a
 pub part-end-moved : (c : Cursor) (at number b : ℕ) → partEnd (movedTo c at number) b ≡ partEnd c b
 unfolding partEnd
 part-end-moved c at number b = refl
+
+-- behind a posting of a part in which no number is over reports
+pub known-on : (a : List ℕ) (reports : ℕ) (c : Cursor) (at number : ℕ) {g f l : ℕ} → place (c .block) + partEnd c (c .block) ≤ length a → at < partEnd c (c .block)
+    → decoded (partOf a (c .block) at (partEnd c (c .block))) ≡ code.Posting g f l → Known a reports (movedTo c at number) → Known a reports (movedTo c (at + l) (number + g))
+unfolding partEnd
+known-on a reports c at number i h e b =
+    bounded-on b (omega (arith, h, part-all a (c .block) (partEnd c (c .block)) i)) (ap decoded (part-drop a (c .block) (partEnd c (c .block)) at) ∙ e)
 
 -- where no posting stands, or one over reports, none is read
 module _ (a : List ℕ) (reports : ℕ) (c : Cursor) (at number : ℕ) where

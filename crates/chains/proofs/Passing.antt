@@ -1,6 +1,6 @@
 -- Reading on in a part: it goes on exactly where a posting can be passed, and stops where none can.
 -- Assumes nothing.
-use Prim.Native.Nat.{ℕ, zero, suc, _+_, _-_, _≤_, _<_}
+use Prim.Native.Nat.{ℕ, zero, suc, _+_, _≤_, _<_}
 use mathlib.Core.Path.{_≡_, refl, sym, ap, _∙_}
 use mathlib.Core.Bool.{Bool, true, false, cond, _&&_}
 use mathlib.Core.List.{List}
@@ -8,7 +8,6 @@ use mathlib.Core.Logic.{_⊎_, inl, inr}
 use native.Mathlib.Omega.{arith}
 use lib.Dec.{ltb}
 use lib.ListN.{length, drop, length-drop, drop-of-length-le}
-use lib.Seq.{drop-drop}
 use borrow.Author.Tests.{lt-ltb, le-ltb, le-leb, lt-leb}
 use Rattle.basics.proofs.Cases.{by-lt}
 use Rattle.postings.specs.Coding.{decoded}
@@ -120,60 +119,6 @@ passed-stops part reports at number to = pass-stops part reports to (length part
 pub passed-none : (part : List ℕ) (reports at number to : ℕ) → length part ≤ at → passed part reports at number to ≡ record { at = at; number = number; postings = 0 }
 unfolding passed
 passed-none part reports at number to h = pass-stopped part reports to (length part) (at-end h)
-
--- ---- a part that starts further on
-
--- the same, m bytes further on
-abbrev pub shifted : ℕ → Passed → Passed
-shifted m p = record { at = m + p .at; number = p .number; postings = p .postings }
-
-module _ (s : List ℕ) (m reports to : ℕ) where
-  goes-shifted : {p : Passed} → Goes (drop m s) reports to p → Goes s reports to (shifted m p)
-  goes-shifted {p} w = record {
-    g = w .g;
-    f = w .f;
-    l = w .l;
-    before-end = omega (arith, simp length-drop at (w .before-end));
-    below = w .below;
-    found = ap decoded (sym (drop-drop (p .at) m s)) ∙ w .found;
-    in-reports = w .in-reports;
-  }
-
-  stopped-shifted : {p : Passed} → Stopped (drop m s) reports to p → Stopped s reports to (shifted m p)
-  stopped-shifted {p} (at-end h) = at-end (omega (arith, simp length-drop at h))
-  stopped-shifted {p} (arrived h) = arrived h
-  stopped-shifted {p} (no-posting e) = no-posting (ap decoded (sym (drop-drop (p .at) m s)) ∙ e)
-  stopped-shifted {p} (over e h) = over (ap decoded (sym (drop-drop (p .at) m s)) ∙ e) h
-
-  stop-both : (k j : ℕ) {p : Passed} → Stopped (drop m s) reports to p → passFrom k s reports to (shifted m p) ≡ shifted m (passFrom j (drop m s) reports to p)
-  stop-both k j x = pass-stopped s reports to k (stopped-shifted x) ∙ sym (ap (shifted m) (pass-stopped (drop m s) reports to j x))
-
-  -- with as many postings as are enough
-  pass-shifted : (k j : ℕ) (p : Passed) → length s ≤ m + p .at + k → length s ≤ m + p .at + j
-      → passFrom k s reports to (shifted m p) ≡ shifted m (passFrom j (drop m s) reports to p)
-  unfolding goes-shifted
-  pass-shifted zero j p h i = stop-both 0 j (at-end (simp length-drop (omega arith)))
-  pass-shifted (suc k) j p h i = go (goes-or-stops (drop m s) reports to p) j i (λ j q. pass-shifted k j q)
-    where
-      go : Goes (drop m s) reports to p ⊎ Stopped (drop m s) reports to p → (j : ℕ) → length s ≤ m + p .at + j
-          → ((j : ℕ) (q : Passed) → length s ≤ m + q .at + k → length s ≤ m + q .at + j → passFrom k s reports to (shifted m q) ≡ shifted m (passFrom j (drop m s) reports to q))
-          → passFrom (suc k) s reports to (shifted m p) ≡ shifted m (passFrom j (drop m s) reports to p)
-      go (inr x) j i ih = stop-both (suc k) j x
-      go (inl w) zero i ih = absurd (omega (arith, simp length-drop at (w .before-end)))
-      go (inl w) (suc j) i ih =
-          let q = behind p (w .g) (w .l) in
-          let l = goes-within (drop m s) reports to w .0 in
-          let e : m + p .at + w .l ≡ m + (p .at + w .l) = omega arith in
-          pass-on s reports to k (goes-shifted w)
-          ∙ ap (λ (x : ℕ). passFrom k s reports to (record { at = x; number = q .number; postings = q .postings })) e
-          ∙ ih j q (omega arith) (omega arith)
-          ∙ sym (ap (shifted m) (pass-on (drop m s) reports to j w))
-
--- what stands in front of a part does not matter for reading on in it
-pub passed-shifted : (s : List ℕ) (m reports at number to : ℕ) → passed s reports (m + at) number to ≡ shifted m (passed (drop m s) reports at number to)
-unfolding passed
-passed-shifted s m reports at number to =
-    pass-shifted s m reports to (length s) (length (drop m s)) (record { at = at; number = number; postings = 0 }) (omega arith) (simp length-drop (omega arith))
 
 -- ---- a part from its first posting on
 

@@ -12,7 +12,6 @@ use Rattle.postings.specs.declared.Decoded.{Decoded}
 use Rattle.postings.specs.declared.Decoded.the-variants as code
 use Rattle.blocks.specs.Fields.{linkSize, linkOf, partOf}
 use Rattle.chains.specs.declared.Cursor.{Cursor}
-use Rattle.chains.specs.declared.Step.{Step}
 use Rattle.chains.specs.declared.Step.the-variants as step
 use Rattle.chains.specs.Chains.{partEnd, given, readAt, entered, nextBlock}
 use Rattle.chains.specs.Parts.{movedTo}

@@ -274,11 +274,6 @@ settled-start w n h g =
     let s : Settled (w .base) n (record { mask = 0; last = w .base }) = settled-none (w .base) n in
     settled-on w (record { mask = 0; last = w .base }) n h g (s .in-bits) (λ i j k. marked-none (w .base) i) (s .last-in) (s .to-last)
 
--- the reports behind n are fewer behind a later one
-pub settled-later : (base n n′ : ℕ) (m : Marks) → n ≤ n′ → Settled base n m → Settled base n′ m
-settled-later base n n′ m h s =
-    record { in-bits = s .in-bits; behind = λ i j l. s .behind i j (omega arith); last-in = s .last-in; to-last = s .to-last }
-
 -- ---- the bit of a report, and the first report marked
 
 pub bit-among : (base among n : ℕ) → In base n → bitAnd among (9223372036854775808 / 2 ^ (n - base)) ≡ cond (isMarked among base n) (bitOf base n) 0

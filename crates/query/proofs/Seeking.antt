@@ -4,10 +4,9 @@ use Prim.Native.Nat.{ℕ, zero, suc, _+_, _-_, _≤_, _<_}
 use mathlib.Core.Path.{_≡_, refl, sym, ap, _∙_}
 use mathlib.Core.Bool.{Bool, true, false, _||_}
 use mathlib.Core.List.{List, [], _∷_}
-use mathlib.Core.Logic.{_⊎_, inl, inr}
 use native.Mathlib.Omega.{arith}
 use lib.Dec.{eqb}
-use lib.ListN.{length, getD, set, length-set}
+use lib.ListN.{getD, set, length-set}
 use lib.Seq.{getD-set-same, getD-set-other}
 use Rattle.basics.proofs.Cases.{by-lt, by-eq}
 use borrow.Author.Tests.{ne-eqb}
@@ -17,17 +16,16 @@ use Rattle.blocks.specs.Prescribed.{Posting}
 use Rattle.chains.specs.declared.Cursor.{Cursor}
 use Rattle.chains.specs.declared.Step.{Step}
 use Rattle.chains.specs.declared.Step.the-variants as step
-use Rattle.chains.specs.Chains.{partEnd, whole, isWhole, exhausted, readAt, nextBlock, stepAt, atHead, chainOf}
+use Rattle.chains.specs.Chains.{partEnd, whole, exhausted, readAt, nextBlock, stepAt, atHead, chainOf}
 use Rattle.postings.specs.Coding.{decoded}
 use Rattle.postings.specs.declared.Decoded.the-variants as code
-use Rattle.sums.specs.declared.Sum.{Sum}
-use Rattle.sums.specs.Adding.{sumOf, addFrom, addedTo, Bounded}
-use Rattle.sums.proofs.Adding.{Adds, Ends, adds-or-ends, add-on, add-ends}
+use Rattle.sums.specs.Adding.{Bounded}
+use Rattle.sums.proofs.Adding.{bounded-by}
 use Rattle.chains.specs.Parts.{movedTo, passedTo, InPart}
 use Rattle.chains.proofs.Steps.{part-end-le, step-next, step-here}
-use Rattle.chains.proofs.Parts.{Within, here, on, part-drop, part-all, part-more, part-posting, part-over, step-part, within-number, passed-to}
+use Rattle.chains.proofs.Parts.{Within, here, on, part-drop, part-all, part-more, part-posting, part-over, step-part, within-number, passed-to, part-end-moved}
 use Rattle.chains.proofs.Skipping.{read-moved, next-earlier, read-more, next-more}
-use Rattle.chains.proofs.Laws.{step-follows, rest, whole-posting, whole-end, whole-undamaged, head-follows, head-rest, is-whole, chain-whole}
+use Rattle.chains.proofs.Laws.{step-follows, rest, whole-posting, whole-end, whole-undamaged, head-follows, head-rest, is-whole, chain-whole, whole-is}
 use Rattle.counters.specs.declared.Counters.{Counters}
 use Rattle.query.specs.Listing.{postingsIn, holds}
 use Rattle.query.specs.Needs.{Readable, Stands, Passing, Sought, Opened, nowhere, ahead, postingsAt}
@@ -116,14 +114,13 @@ module _ {a : List ℕ} {k : Counters} {c : Cursor} (s : Stands a k c) where
   module _ {m f : ℕ} {c′ : Cursor} (e : stepAt a (k .used) (k .reports) c ≡ step.Posting m f c′) where
     -- one step on
     pub stands-on : Stands a k c′
-    unfolding isWhole
     stands-on =
         let t = step-follows a (k .used) (k .reports) c e in
         let v = whole-posting a (k .used) (k .reports) c (reads .0) (reads .1) e in
         record {
           follows = t .follows (s .follows);
           far = rw (t .end) (s .far);
-          sound = ap isWhole (v .1);
+          sound = whole-is (v .1);
           within = omega (arith, t .number, t .within);
           in-part = λ _. step-part a (k .used) (k .reports) c (s .far) (s .follows) e;
         }
@@ -179,12 +176,6 @@ part-forward number s h = within-number (passed-to (s .in-part h) number .1)
 
 -- ---- no number of a sound chain's part is over reports
 
-abbrev partAt : List ℕ → Cursor → List ℕ
-partAt a c = partOf a (c .block) 0 (partEnd c (c .block))
-
-abbrev sumAt : Cursor → ℕ → Sum
-sumAt c j = record { at = c .at; number = c .number; postings = j }
-
 module _ {a : List ℕ} {k : Counters} where
   -- a posting that is decoded there is the cursor's next
   module _ {c : Cursor} (s : Stands a k c) (w : InPart a (k .reports) c) {g f l : ℕ}
@@ -204,26 +195,17 @@ module _ {a : List ℕ} {k : Counters} where
     part-stands : Stands a k next
     part-stands = stands-on s (here-is ∙ part-posting w (c .at) (c .number) h e part-bound)
 
-  -- by so many postings at most, counted from any number on
-  sum-in : (fuel : ℕ) (c : Cursor) (j : ℕ) → Stands a k c → 0 < c .first → addFrom fuel (partAt a c) (length (partAt a c)) (sumAt c j) .number ≤ k .reports
-  unfolding addFrom partEnd
-  sum-in zero c j s b = s .within
-  sum-in (suc fuel) c j s b = go (adds-or-ends (partAt a c) (length (partAt a c)) (sumAt c j)) (λ d i t h. sum-in fuel d i t h)
-    where
-      go : Adds (partAt a c) (length (partAt a c)) (sumAt c j) ⊎ Ends (partAt a c) (length (partAt a c)) (sumAt c j)
-          → ((d : Cursor) (i : ℕ) → Stands a k d → 0 < d .first → addFrom fuel (partAt a d) (length (partAt a d)) (sumAt d i) .number ≤ k .reports)
-          → addFrom (suc fuel) (partAt a c) (length (partAt a c)) (sumAt c j) .number ≤ k .reports
-      go (inr e) ih = rw (add-ends (partAt a c) (length (partAt a c)) (suc fuel) e) (s .within)
-      go (inl x) ih =
-          let w = s .in-part b in
-          let z = part-all a (c .block) (partEnd c (c .block)) (omega (arith, w .inside, part-end-le c (c .block) (w .end-in))) in
-          let h : c .at < partEnd c (c .block) = omega (arith, x .before-stop, z) in
-          let e = sym (ap decoded (part-drop a (c .block) (partEnd c (c .block)) (c .at))) ∙ x .found in
-          rw (add-on (partAt a c) (length (partAt a c)) fuel x) (ih (next s w h e) (j + 1) (part-stands s w h e) b)
-
   pub stands-bounded : {c : Cursor} → Stands a k c → 0 < c .first → Bounded (partOf a (c .block) 0 (partEnd c (c .block))) (k .reports) (c .at) (c .number)
-  unfolding addedTo
-  stands-bounded {c} s b = record { last = sum-in (length (partAt a c)) c 0 s b }
+  stands-bounded {c} s b =
+      let p = c .block in
+      let w = s .in-part b in
+      let z = part-all a p (partEnd c p) (omega (arith, w .inside, part-end-le c p (w .end-in))) in
+      bounded-by (partOf a p 0 (partEnd c p)) (k .reports) (λ at n. Stands a k (movedTo c at n))
+      (λ at n t. t .within)
+      (λ at n g f l t h e.
+      let same = part-end-moved c at n p in
+      part-stands t (t .in-part b) {f = f} (rw same (omega (arith, h, z))) (rw same (sym (ap decoded (part-drop a p (partEnd c p) at)) ∙ e)))
+      s
 
 -- ---- the next block
 
@@ -335,12 +317,12 @@ module _ {a : List ℕ} {k : Counters} {h : ℕ} (r : Readable a k h) where
       (w .0, w .1, sym (head-rest a (k .used) (k .reports) h (headOf a h)) ∙ chain-whole a (k .used) (k .reports) h (w .0) (w .1) .reads)
 
   pub head-stands : Stands a k (atHead (headOf a h) (k .used) h)
-  unfolding atHead capacity isWhole
+  unfolding atHead capacity
   head-stands =
       let w = is-whole (chainOf a (k .used) (k .reports) h) (r .sound) in
       let v = chain-whole a (k .used) (k .reports) h (w .0) (w .1) in
       let f = head-follows a (k .used) h (headOf a h) (omega (arith, r .inside)) (r .in-use) (v .good) in
-      record { follows = f .0; far = f .1; sound = ap isWhole (head-reads .2); within = omega arith; in-part = λ l. absurd (omega arith) }
+      record { follows = f .0; far = f .1; sound = whole-is (head-reads .2); within = omega arith; in-part = λ l. absurd (omega arith) }
 
   pub head-stream : Stream a k h 1 (atHead (headOf a h) (k .used) h)
   unfolding atHead postingsIn

@@ -7,7 +7,7 @@ use mathlib.Core.List.{List}
 use mathlib.Core.Logic.{_⊎_, inl, inr}
 use native.Mathlib.Omega.{arith}
 use lib.Dec.{ltb}
-use lib.ListN.{length, drop, length-drop}
+use lib.ListN.{length, drop}
 use borrow.Author.Tests.{lt-ltb, le-ltb}
 use Rattle.basics.proofs.Cases.{by-lt}
 use Rattle.postings.specs.Coding.{decoded}
@@ -57,6 +57,14 @@ module _ (part : List ℕ) (stop : ℕ) where
   add-ends zero s = refl
   add-ends (suc k) {p} (at-stop h) = rw (le-ltb (p .at) stop h)
   add-ends (suc k) {p} (no-posting e) = rw e (cond-same (ltb (p .at) stop) p)
+
+  pub add-none : (p : Sum) → addFrom zero part stop p ≡ p
+  unfolding addFrom
+  add-none p = refl
+
+  pub added-is : (p : Sum) → addedTo part stop p ≡ addFrom (length part) part stop p
+  unfolding addedTo
+  added-is p = refl
 
   -- a posting takes at least one byte
   pub adds-byte : {p : Sum} (w : Adds part stop p) → 0 < w .l
@@ -157,6 +165,28 @@ any-count part stop (suc k) at number c d =
     go (inl w) ih =
         let v : Adds part stop (p d) = record { g = w .g; f = w .f; l = w .l; before-stop = w .before-stop; found = w .found } in
         ap (λ (x : Sum). x .number) (add-on part stop k w) ∙ ih (at + w .l) (number + w .g) (c + 1) (d + 1) ∙ sym (ap (λ (x : Sum). x .number) (add-on part stop k v))
+
+-- what bounds the number at every offset that is reached, posting by posting, bounds them all
+module _ (part : List ℕ) (reports : ℕ) (P : ℕ → ℕ → Type 0)
+    (low : (at n : ℕ) → P at n → n ≤ reports)
+    (on : (at n g f l : ℕ) → P at n → at < length part → decoded (drop at part) ≡ code.Posting g f l → P (at + l) (n + g)) where
+  sum-by : (fuel at n j : ℕ) → P at n → addFrom fuel part (length part) (record { at = at; number = n; postings = j }) .number ≤ reports
+  unfolding addFrom
+  sum-by zero at n j x = low at n x
+  sum-by (suc fuel) at n j x = go (adds-or-ends part (length part) p) (λ at n j y. sum-by fuel at n j y)
+    where
+      p : Sum
+      p = record { at = at; number = n; postings = j }
+
+      go : Adds part (length part) p ⊎ Ends part (length part) p
+          → ((at n j : ℕ) → P at n → addFrom fuel part (length part) (record { at = at; number = n; postings = j }) .number ≤ reports)
+          → addFrom (suc fuel) part (length part) p .number ≤ reports
+      go (inr e) ih = rw (add-ends part (length part) (suc fuel) e) (low at n x)
+      go (inl w) ih = rw (add-on part (length part) fuel w) (ih (at + w .l) (n + w .g) (j + 1) (on at n (w .g) (w .f) (w .l) x (w .before-stop) (w .found)))
+
+  pub bounded-by : {at n : ℕ} → P at n → Bounded part reports at n
+  unfolding addedTo
+  bounded-by {at} {n} x = record { last = sum-by (length part) at n 0 x }
 
 module _ {part : List ℕ} {reports at n : ℕ} (b : Bounded part reports at n) where
   pub bounded-here : n ≤ reports

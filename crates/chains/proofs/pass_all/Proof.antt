@@ -1,9 +1,8 @@
 -- `chains::pass_all` meets its contract: what is added up is what is passed, where its number is at most reports.
 -- Assumes nothing.
 use borrow.Author.Needs.{needs}
-use mathlib.Core.Path.{sym, ap, _∙_}
+use mathlib.Core.Path.{ap, _∙_}
 use native.Mathlib.Omega.{arith}
-use lib.ListN.{length}
 use denote.Ref.{now}
 use Rattle.sums.specs.declared.Sum.{Sum}
 use Rattle.chains.proofs.Added.{asPassed, added-passed}

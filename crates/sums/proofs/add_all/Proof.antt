@@ -1,7 +1,7 @@
 -- `sums::add_all` meets its contract: what is added up in two parts is what is added up in one.
 -- Assumes nothing.
 use borrow.Author.Needs.{needs}
-use Prim.Native.Nat.{ℕ, _+_, _≤_}
+use Prim.Native.Nat.{ℕ, _≤_}
 use mathlib.Core.Path.{_≡_, refl, sym, ap, _∙_}
 use mathlib.Core.List.{List}
 use mathlib.Core.Logic.{⊎-elim}
@@ -9,7 +9,6 @@ use native.Mathlib.Omega.{arith}
 use lib.ListN.{length}
 use denote.Ref.{now}
 use borrow.Author.Tests.{eqb-true}
-use Rattle.sums.specs.declared.Sum.{Sum}
 use Rattle.sums.specs.Adding.{sumOf, addedTo}
 use Rattle.sums.specs.Rows.{Rows}
 use Rattle.sums.proofs.Adding.{added-in-two}

@@ -14,7 +14,7 @@ returns c =
     sym (ap (λ (x : ℕ). markOf x (a .q) (a .p)) (c .if1 .taken) ∙ mark-null (a .q) (a .p))
 
 returns-2 : tie.Need-returns-2
-returns-2 c = let a = c .before .before .args in sym (mark-high (a .b) (a .q) (a .p) (c .if2 .taken))
+returns-2 c = let a = c .before .before .args in sym (mark-high (a .b) (a .q) (a .p) (omega (arith, c .if2 .taken)))
 
 -- a value of one byte
 module _ (e : tie.Else2) where
@@ -33,12 +33,12 @@ returns-3 c =
 returns-4 : tie.Need-returns-4
 returns-4 c =
     let e = c .before .before .before in
-    sym (mark-three (a e .args .b) (a e .args .q) (a e .args .p) (omega (arith, e .before .if1 .left)) (omega (arith, e .if2 .left)) (c .if5 .taken) (c .before .before .if3 .taken) (c .before .if4 .left))
+    sym (mark-three (a e .args .b) (a e .args .q) (a e .args .p) (omega (arith, e .before .if1 .left)) (omega (arith, e .if2 .left)) (omega (arith, c .if5 .taken)) (c .before .before .if3 .taken) (c .before .if4 .left))
 
 returns-5 : tie.Need-returns-5
 returns-5 c =
     let e = c .before .before .before in
-    sym (mark-start (a e .args .b) (a e .args .q) (a e .args .p) (fit e (λ x _. absurd (c .if5 .left x))) (second-past (a e .args .q) (a e .args .p) (c .before .if4 .left)))
+    sym (mark-start (a e .args .b) (a e .args .q) (a e .args .p) (fit e (λ x _. absurd (omega (arith, c .if5 .left, x)))) (second-past (a e .args .q) (a e .args .p) (c .before .if4 .left)))
 
 returns-6 : tie.Need-returns-6
 returns-6 c =

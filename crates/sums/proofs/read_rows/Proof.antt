@@ -2,14 +2,13 @@
 -- Assumes nothing.
 use borrow.Author.Needs.{needs}
 use Prim.Native.Nat.{ℕ, _+_, _%_, _<_}
-use mathlib.Core.Path.{_≡_, sym, ap, ap₂, _∙_}
+use mathlib.Core.Path.{_≡_, sym, ap₂, _∙_}
 use mathlib.Core.Bool.{true≢false}
 use mathlib.Core.List.{List}
 use mathlib.Core.Logic.{⊎-elim}
 use native.Mathlib.Omega.{arith}
 use lib.ListN.{getD}
 use denote.Ref.{now}
-use Rattle.sums.specs.declared.Sum.{Sum}
 use Rattle.sums.specs.Rows.{gapAt, markAt, sumFrom}
 use Rattle.sums.proofs.Rows.{lanes-total, rows-add}
 use Rattle.sums.proofs.read_rows.Statement.{statement}
