@@ -6,6 +6,7 @@
 //! | [`workload`] | the reports and queries that are measured |
 //! | [`plain`] | the four calls in plain Rust, written for speed |
 //! | [`sides`] | the proved library and plain Rust, each with an index of its own |
+//! | [`links`] | the links of chains, followed alone |
 //! | [`fts`] | FTS5 on the same workload, where SQLite is installed |
 //! | `sqlite` | the C functions of SQLite; all `unsafe` stands there |
 //! | [`rounds`] | rounds on a clock |
@@ -18,6 +19,7 @@ pub mod fts;
 #[cfg(not(sqlite))]
 #[path = "no_fts.rs"]
 pub mod fts;
+pub mod links;
 pub mod plain;
 pub mod rounds;
 pub mod sides;

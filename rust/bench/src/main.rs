@@ -6,6 +6,7 @@
 use std::process::ExitCode;
 
 use bench::fts::Fts;
+use bench::links::Chains;
 use bench::plain::PLAIN;
 use bench::rounds::Times;
 use bench::sides::{Lists, Side};
@@ -51,17 +52,22 @@ fn measure(reports: usize) {
     println!("| what | library | plain Rust | library / plain Rust | of the medians | FTS5 | FTS5 / library |");
     println!("|---|---|---|---|---|---|---|");
     measure_ingest(&workload, &mut sides, &mut fts);
+    let mut links = Vec::new();
     for queries in workload.queries() {
         let (times, parts, found) = measure_queries(&workload, &queries, &sides);
         let name = format!("{}; {} found", queries.name, found / queries.places.len());
         let fts = fts.query(&workload, &queries, found);
         print_row(&name, MICROSECONDS, &times, parts, Some(fts));
+        if !queries.are_of_one_term() {
+            links.push(links_row(&workload, &queries, &sides, fts));
+        }
     }
     for queries in workload.readings() {
         let (times, parts, _) = measure_queries(&workload, &queries, &sides);
         let name = format!("{} read for damage, nothing listed", queries.name);
         print_row(&name, MICROSECONDS, &times, parts, None);
     }
+    print_links(&links);
     print_sizes(&workload, &sides[0]);
 }
 
@@ -135,6 +141,37 @@ fn passes(side: &Side, frames: &[Vec<u8>], lists: &mut Lists) -> usize {
         }
     });
     (QUERY_ROUND / time.best(1)).ceil() as usize
+}
+
+/// Follows the links of the queries' chains alone, as often as the other rounds and in turns with
+/// the library's listings, so that the caches hold as little of the chains as they do there: a row
+/// with the best round, and a third of FTS5's time for comparison.
+fn links_row(workload: &Workload, queries: &Queries, sides: &[Side; 2], fts: f64) -> String {
+    let frames = queries.frames(&workload.terms);
+    let mut lists = Lists::new(workload.reports.len(), false);
+    let passes = passes(&sides[0], &frames, &mut lists);
+    let chains = Chains::new(workload, queries, &sides[1]);
+    let number = frames.len();
+    let blocks = chains.follow() / number;
+    let mut times = Times::default();
+    for _ in 0..QUERY_ROUNDS {
+        for frame in frames.iter().cycle().take(passes * number) {
+            sides[0].list(frame, &mut lists);
+        }
+        times.take(|| assert_eq!(chains.follow() / number, blocks, "the chains' blocks"));
+    }
+    let [best, median] = [times.best(number), times.median(number)].map(|time| time / 1_000.0);
+    let third = fts / 3.0 / 1_000.0;
+    let name = queries.name;
+    format!("| {name} | {blocks} | {best:.2} | {median:.2} | {third:.2} |")
+}
+
+fn print_links(rows: &[String]) {
+    println!("\n| links followed alone | blocks a query | microseconds a query | of the median round | a third of FTS5's time |");
+    println!("|---|---|---|---|---|");
+    for row in rows {
+        println!("{row}");
+    }
 }
 
 /// A unit of time: its name, its nanoseconds and the digits behind the point.

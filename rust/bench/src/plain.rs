@@ -310,17 +310,21 @@ fn take(
     let (mut terms, mut needed) = (0, 0);
     for (line, entry) in read.lines.iter().zip(&mut kept) {
         let place = place_of(blocks, table, counters, line, read.term(line)).ok_or(10)?;
-        match place {
-            Place::New(_) => (terms, needed) = (terms + 1, needed + 1),
-            Place::Spills(..) => needed += 1,
-            Place::Stays(..) => {}
-        }
-        if let Place::New(_) = place {
-            *entry = 0;
-        } else if let Place::Stays(head, _) | Place::Spills(head, _) = place {
-            if head + 1 != *entry {
-                *entry = 0;
+        let found = match place {
+            Place::New(_) => {
+                terms += 1;
+                needed += 1;
+                0
             }
+            Place::Spills(head, _) => {
+                needed += 1;
+                head + 1
+            }
+            Place::Stays(head, _) => head + 1,
+        };
+        // An entry is kept where the term was found right there.
+        if found != *entry {
+            *entry = 0;
         }
     }
     check_room(blocks, table, counters, terms, needed)?;

@@ -33,7 +33,8 @@ impl Side {
         }
     }
 
-    fn arena(&self) -> &[u8] {
+    /// The arena.
+    pub fn arena(&self) -> &[u8] {
         &self.memory[self.arena.clone()]
     }
 
