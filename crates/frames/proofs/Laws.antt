@@ -1,6 +1,6 @@
 -- What the crates above use of frames: what a frame that is not refused holds, and how its lines and terms are read one after another.
 -- Assumes nothing.
-use mathlib.Core.Path.{_≡_, refl, sym, ap, _∙_}
+use mathlib.Core.Path.{_≡_, refl, sym, ap}
 use mathlib.Core.Bool.{false}
 use mathlib.Core.List.{List, [], _∷_, _++_, map}
 use Prim.Native.Nat.{ℕ, zero, suc, _+_, _≤_, _<_}
@@ -17,7 +17,7 @@ use Rattle.frames.specs.declared.Cursor.{Cursor}
 use Rattle.frames.specs.declared.Report.the-variants as report
 use Rattle.frames.specs.declared.Query.the-variants as query
 use Rattle.frames.specs.Refusals.{Row, _if_, firstOf}
-use Rattle.frames.specs.Frames.{maxBody, countBytes, firstLine, firstTerm, termAt, pastField, Field, fields, lines, terms, passesEnd, wrongTerms, badTerm, zeroCount, repeatedTerm, headRows, fieldRows, reportRows, queryRows, reportRefusal, queryRefusal, lineAt, foldedAt, reportAs, reportFrame, queryStart, queryAs, queryFrame, queryTerms}
+use Rattle.frames.specs.Frames.{maxBody, countBytes, firstLine, firstTerm, termAt, countAt, pastField, Field, fields, lines, terms, passesEnd, wrongTerms, badTerm, zeroCount, repeatedTerm, headRows, fieldRows, reportRows, queryRows, reportRefusal, queryRefusal, lineAt, foldedAt, reportAs, reportFrame, queryStart, queryAs, queryFrame, queryTerms}
 use Rattle.frames.proofs.Refusals.{Numbered, numbered, first-empty, first-zero, both-zero, first-le, first-some, first-none}
 use Rattle.frames.proofs.Heads.{head-numbered, headed, Headed}
 use Rattle.frames.proofs.Fields.{fields-end, fields-more, field-here, whole-on}
@@ -141,6 +141,17 @@ terms-ready k most f start c e =
     let s = terms-sound k most f start c e in
     let q : SoundQuery most f = sound-query k most f (s .0) in
     rw (s .2) (query-uncut most f (q .right) .1, q .good)
+
+-- ---- the line at an offset: its folded term and its count
+
+module _ (f : List ℕ) (at : ℕ) where
+  pub line-term : lineAt f at .term ≡ foldedAt f at
+  unfolding lineAt
+  line-term = refl
+
+  pub line-count : lineAt f at .count ≡ countAt f at
+  unfolding lineAt
+  line-count = refl
 
 -- ---- one line after another
 

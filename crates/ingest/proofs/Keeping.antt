@@ -12,6 +12,7 @@ use Rattle.basics.proofs.Cases.{by-eq}
 use Rattle.basics.proofs.Parts.{rest-here, rest-in}
 use Rattle.terms.specs.Terms.{maxTerm, fnv1a}
 use Rattle.frames.specs.Frames.{Line, lines, foldedAt, lineAt}
+use Rattle.frames.proofs.Laws.{line-term}
 use Rattle.blocks.specs.Fields.{headOf}
 use Rattle.blocks.specs.Writes.{fits}
 use Rattle.blocks.proofs.Capacity.{block-inside}
@@ -40,8 +41,8 @@ kept-nth m f kept n at k e =
 -- w is the line's folded term
 pub read-kept : (m : Memory) (f : List ℕ) (at : ℕ) {w : List ℕ} → w ≡ foldedAt f at
     → firstHit (sought (m .arena) (m .counters .used) (m .table) w) (firstEntry (m .table) (fnv1a w)) ≡ keptOf m (lineAt f at)
-unfolding keptOf lineAt
-read-kept m f at b = rw b
+unfolding keptOf
+read-kept m f at b = rw (b, line-term f at)
 
 -- in `kept`, what is kept of the first n lines stands before the first entries of the others
 pub record Keeps (m : Memory) (f entries kept : List ℕ) (n : ℕ) : Type 0 where

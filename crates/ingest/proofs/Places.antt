@@ -9,6 +9,7 @@ use borrow.Author.Tests.{ltb-false}
 use lib.Dec.{ltb}
 use Rattle.basics.proofs.Lists.{or-left, or-right}
 use Rattle.frames.specs.Frames.{Line, countBytes, countAt, fields, foldedAt, lineAt}
+use Rattle.frames.proofs.Laws.{line-term, line-count}
 use Rattle.blocks.specs.declared.Head.{Head}
 use Rattle.blocks.specs.Fields.{linkOf, headOf}
 use Rattle.blocks.specs.Writes.{fits, Appends, InTail}
@@ -109,10 +110,9 @@ linesFrom f at = map (lineAt f) (fields countBytes f at)
 module _ (f : List ℕ) (at : ℕ) {w : List ℕ} {n : ℕ} (b : w ≡ foldedAt f at) (q : n ≡ countAt f at) where
   -- its place
   pub read-place : (m : Memory) → placed (m .arena) (m .counters) n (sought (m .arena) (m .counters .used) (m .table) w) ≡ placeOf m (lineAt f at)
-  unfolding placeOf lineAt
-  read-place m = rw (q, b)
+  unfolding placeOf
+  read-place m = rw (q, b, line-term f at, line-count f at)
 
   -- the line itself
   pub read-line : lineOf w n ≡ lineAt f at
-  unfolding lineAt
-  read-line = rw (q, b)
+  read-line = rw (q, b, ← line-term f at, ← line-count f at)

@@ -10,15 +10,14 @@ use Rattle.frames.specs.Refusals.{firstOf}
 use Rattle.frames.specs.Frames.{lines, foldedAt, lineAt, repeatsAfter, repeatedTerm, reportRefusal, reportLines}
 use Rattle.frames.proofs.Refusals.{both-zero}
 use Rattle.frames.proofs.Reports.{report-numbered}
-use Rattle.frames.proofs.Laws.{SoundReport, sound-report}
+use Rattle.frames.proofs.Laws.{SoundReport, sound-report, line-term}
 use Rattle.ledger.specs.Ledger.{Report, ledgerRows, enterReport}
 use Rattle.ledger.proofs.Listing.{termsIn, Distinct, distinct-more}
 
 -- the terms of the lines of a frame
 lines-terms : (f ats : List ℕ) → termsIn (map (lineAt f) ats) ≡ map (foldedAt f) ats
-unfolding lineAt
 lines-terms f [] = refl
-lines-terms f (at ∷ ats) = rw (lines-terms f ats)
+lines-terms f (at ∷ ats) = rw (line-term f at, lines-terms f ats)
 
 pub frame-distinct : (f : List ℕ) → reportRefusal f ≡ 0 → repeatsAfter [] (termsIn (reportLines f)) ≡ false
 unfolding reportLines repeatedTerm
