@@ -2,8 +2,8 @@
 -- Assumes nothing.
 use Prim.Native.Nat.{ℕ, zero, suc, _+_, _-_, _≤_, _<_}
 use mathlib.Core.Path.{_≡_, refl}
-use mathlib.Core.Bool.{Bool, true, false, _&&_, _||_}
-use mathlib.Core.List.{List, [], _∷_, map}
+use mathlib.Core.Bool.{Bool, true, false, _&&_, _||_, and-assoc}
+use mathlib.Core.List.{List, [], _∷_, _++_, map}
 use native.Mathlib.Omega.{arith}
 use native.Mathlib.Numerals.{add-one}
 use native.Mathlib.Nat.{le-of-suc-le-suc, sub-zero, zero-sub, suc-sub-suc}
@@ -45,6 +45,18 @@ module _ {A : Type 0} (f : A → Bool) where
   pub all-drop : (s : List A) (d : A) (i : ℕ) → i < length s → all f (drop i s) ≡ f (getD s i d) && all f (drop (i + 1) s)
   unfolding all
   all-drop s d i h = rw (add-one, drop-cons s i d)
+
+  -- the test at the elements of two lists, one behind the other
+  pub all-append : (s t : List A) → all f (s ++ t) ≡ all f s && all f t
+  unfolding all
+  all-append [] t = refl
+  all-append (x ∷ s) t = rw (all-append s t, and-assoc)
+
+  -- the test at what a map makes of each element
+  pub all-map : {B : Type 0} (g : B → A) (s : List B) → all f (map g s) ≡ all (λ x. f (g x)) s
+  unfolding all
+  all-map g [] = refl
+  all-map g (x ∷ s) = rw (all-map g s)
 
 -- ---- the elements that a test keeps
 

@@ -8,7 +8,7 @@ use native.Mathlib.Omega.{arith}
 use lib.Dec.{ltb, leb, eqb}
 use borrow.Author.Tests.{ltb-true, lt-ltb, eq-eqb, ne-eqb}
 use Rattle.basics.specs.Lists.{all, any, same, keep}
-use Rattle.basics.proofs.Lists.{and-left, and-right, or-left, or-right, same-eq}
+use Rattle.basics.proofs.Lists.{and-left, and-right, all-append, all-map, or-left, or-right, same-eq}
 use Rattle.frames.specs.Frames.{repeatsAfter}
 use Rattle.blocks.specs.Prescribed.{Posting}
 use Rattle.query.specs.Listing.{holds, common}
@@ -26,11 +26,6 @@ pub not-both {ℓ} : {C : Type ℓ} {b : Bool} → b ≡ true → b ≡ false �
 not-both p q = let z : _≡_ {A = ℕ} 0 1 = cc in absurd (omega arith)
 
 module _ {A : Type 0} where
-  all-append : (f : A → Bool) (s t : List A) → all f (s ++ t) ≡ all f s && all f t
-  unfolding all
-  all-append f [] t = refl
-  all-append f (x ∷ s) t = by-test (f x) (λ e. rw e (all-append f s t)) (λ e. rw e)
-
   any-append : (f : A → Bool) (s t : List A) → any f (s ++ t) ≡ any f s || any f t
   unfolding any
   any-append f [] t = refl
@@ -59,11 +54,6 @@ module _ {A : Type 0} where
   unfolding all
   all-true [] = refl
   all-true (x ∷ s) = all-true s
-
-  all-map : {B : Type 0} (f : A → Bool) (g : B → A) (s : List B) → all f (map g s) ≡ all (λ x. f (g x)) s
-  unfolding all
-  all-map f g [] = refl
-  all-map f g (x ∷ s) = rw (all-map f g s)
 
 or-none : (b : Bool) → b || false ≡ b
 or-none true = refl
