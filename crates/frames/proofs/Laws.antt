@@ -199,7 +199,7 @@ module _ {tail : ℕ} {f : List ℕ} {at : ℕ} (s : Sound tail f at) (h : at < 
   pub sound-on : Sound tail f (pastField tail f at)
   sound-on = record { whole = whole-on tail f at (s .whole) h; good = good-on tail f at h (s .good) }
 
--- ---- the numbers of a report's table
+-- ---- the numbers of the tables
 
 module _ (f : List ℕ) where
   -- a report's frame is refused with 1 to 7
@@ -211,6 +211,15 @@ module _ (f : List ℕ) where
       (first-le 7 _ _ (omega arith)
       (first-le 7 _ _ (omega arith)
       (first-le 7 _ _ (omega arith) (first-le 7 _ _ (omega arith) (first-le 7 _ _ (omega arith) (first-le 7 _ _ (omega arith) last))))))
+
+-- with further rows behind, the table of a query's frame has no number over n where theirs are not: its own are 1 to 5
+pub query-le : (k most : ℕ) (f : List ℕ) (n : ℕ) (rs : List Row) → 5 ≤ n → firstOf rs ≤ n → firstOf (queryRows k most f ++ rs) ≤ n
+unfolding queryRows headRows
+query-le k most f n rs h l =
+    first-le n _ _ (omega arith)
+    (first-le n _ _ (omega arith) (first-le n _ _ (omega arith) (first-le n _ _ (omega arith) (first-le n _ _ (omega arith) l))))
+
+-- ---- a query of one term
 
 -- a query of at most one term names exactly one
 none-left : (s : List ℕ) → length s ≤ 0 → s ≡ []
