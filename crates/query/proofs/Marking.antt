@@ -1,18 +1,17 @@
 -- Marks in a window of 64 reports: which reports are marked where one is added, and where the first is taken out.
 -- Assumes nothing.
-use Prim.Native.Nat.{ℕ, suc, _+_, _-_, _*_, _/_, _%_, _^_, _≤_, _<_}
+use Prim.Native.Nat.{ℕ, zero, suc, _+_, _-_, _*_, _/_, _%_, _^_, _≤_, _<_, min}
 use mathlib.Core.Path.{_≡_, refl, sym, ap, _∙_}
-use mathlib.Core.Bool.{Bool, true, false, cond, true≢false}
+use mathlib.Core.Bool.{true, false, cond, _&&_, true≢false}
 use native.Mathlib.Omega.{arith}
-use native.Mathlib.Nat.{add-mul-div-right, div-eq-of-lt, one-mul, zero-mul, mod-eq-of-lt, le-div-iff-mul-le, div-lt-iff-lt-mul, pow-suc, mod-lt}
-use lib.Dec.{eqb}
-use lib.Pow.{pow-add, pow-pos, pow-mono, pow-lt, shl-shr, shr-shr, high, ones-split, ones-lt, high-ones}
-use lib.Bits.{bitAnd, and-high}
-use lib.Count.{leadingZeros, leading-top}
+use native.Mathlib.Nat.{add-mul-div-right, div-eq-of-lt, one-mul, mod-eq-of-lt, le-div-iff-mul-le, div-lt-iff-lt-mul, pow-suc, mod-lt}
+use lib.Dec.{leb, eqb}
+use lib.Pow.{pow-add, pow-pos, pow-mono, pow-lt, shl-shr, shr-shr, high, ones-split, ones-lt}
+use lib.Bits.{bitAnd, and-step}
+use lib.Count.{leadingZeros, leading-top, trailingZeros, under}
 use borrow.Author.Tests.{eqb-true, eqb-false, eq-eqb, ne-eqb, le-leb, lt-leb}
 use Rattle.basics.proofs.Cases.{by-lt, by-eq}
-use Rattle.query.specs.declared.Marks.{Marks}
-use Rattle.query.specs.Windows.{width, In, bitOf, isMarked, Asks, asks, isAsked, withMark, Settled}
+use Rattle.query.specs.Windows.{width, In, bitOf, isMarked, FirstMarked, Without, withMark, Settled}
 
 -- ---- the bits of a number
 
@@ -123,14 +122,60 @@ top-bit m j l h =
 above-bit : (m s : ℕ) → m < 2 ^ s → bit m s ≡ 0
 above-bit m s h = ap (λ (x : ℕ). x % 2) (div-eq-of-lt h)
 
--- the highest of 64 bits shifted down, and the one bit that a mask of one bit leaves
+-- the highest of 64 bits shifted down
 top-down : (d : ℕ) → d < 64 → 9223372036854775808 / 2 ^ d ≡ 2 ^ (63 - d)
 top-down d h =
     let f : 63 - d + d ≡ 63 = omega arith in
     ap (λ (x : ℕ). 2 ^ x / 2 ^ d) (sym f) ∙ ap (λ (x : ℕ). x / 2 ^ d) (pow-add 2 (63 - d) d) ∙ shl-shr (2 ^ (63 - d)) d
 
-and-bit : (m s : ℕ) → bitAnd m (2 ^ s) ≡ bit m s * 2 ^ s
-and-bit m s = ap (bitAnd m) (sym (high-ones 1 s ∙ one-mul (2 ^ s))) ∙ and-high m 1 s
+-- a bit but the lowest is one of the half
+bit-half : (m s : ℕ) → bit m (suc s) ≡ bit (m / 2) s
+bit-half m s = let f : suc s ≡ 1 + s = omega arith in ap (λ (x : ℕ). m / 2 ^ x % 2) f ∙ ap (λ (x : ℕ). x % 2) (sym (shr-shr m 1 s))
+
+bit-lowest : (m : ℕ) → bit m 0 ≡ m % 2
+bit-lowest m = omega arith
+
+-- the bits of both
+both-half : (a b : ℕ) → bitAnd a b / 2 ≡ bitAnd (a / 2) (b / 2)
+both-half a b = ap (λ (x : ℕ). x / 2) (and-step a b) ∙ go (bitAnd (a / 2) (b / 2)) (a % 2) (b % 2) (mod-lt a (omega arith))
+  where
+    go : (x r t : ℕ) → r < 2 → (x * 2 + min r t) / 2 ≡ x
+    go x r t h = omega arith
+
+both-lowest : (a b : ℕ) → bitAnd a b % 2 ≡ min (a % 2) (b % 2)
+both-lowest a b = ap (λ (x : ℕ). x % 2) (and-step a b) ∙ go (bitAnd (a / 2) (b / 2)) (a % 2) (b % 2) (mod-lt a (omega arith))
+  where
+    go : (x r t : ℕ) → r < 2 → (x * 2 + min r t) % 2 ≡ min r t
+    go x r t h = omega arith
+
+both-bit : (s a b : ℕ) → bit (bitAnd a b) s ≡ min (bit a s) (bit b s)
+both-bit zero a b = bit-lowest (bitAnd a b) ∙ both-lowest a b ∙ sym (rw (bit-lowest a, bit-lowest b))
+both-bit (suc s) a b = bit-half (bitAnd a b) s ∙ ap (λ (x : ℕ). bit x s) (both-half a b) ∙ both-bit s (a / 2) (b / 2) ∙ sym (rw (bit-half a s, bit-half b s))
+
+-- the lowest bit of m is bit t: those below it are not there
+record Lowest (m t : ℕ) : Type 0 where
+  own : bit m t ≡ 1
+  below : (s : ℕ) → s < t → bit m s ≡ 0
+
+lowest-bit : (k m : ℕ) → 0 < m → m < 2 ^ k → (trailingZeros k m < k) × Lowest m (trailingZeros k m)
+unfolding trailingZeros
+lowest-bit zero m p h = absurd (omega arith)
+lowest-bit (suc k) m p h = go (m % 2) refl (λ e. lowest-bit k (m / 2) (omega arith) (div-lt-iff-lt-mul (omega arith) .1 (omega (arith, h, pow-suc 2 k))))
+  where
+    go : (r : ℕ) → m % 2 ≡ r → (m % 2 ≡ 0 → (trailingZeros k (m / 2) < k) × Lowest (m / 2) (trailingZeros k (m / 2)))
+        → (under r (trailingZeros k (m / 2)) < suc k) × Lowest m (under r (trailingZeros k (m / 2)))
+    go zero e ih =
+        let t = trailingZeros k (m / 2) in
+        let x = ih e in
+        (omega (arith, x .0), record { own = bit-half m t ∙ x .1 .own; below = below (x .1) })
+      where
+        below : Lowest (m / 2) (trailingZeros k (m / 2)) → (s : ℕ) → s < suc (trailingZeros k (m / 2)) → bit m s ≡ 0
+        below l zero h = bit-lowest m ∙ e
+        below l (suc s) h = bit-half m s ∙ l .below s (omega arith)
+    go (suc r) e ih = (omega arith, record { own = bit-lowest m ∙ odd; below = λ s h. absurd (omega arith) })
+      where
+        odd : m % 2 ≡ 1
+        odd = omega (arith, e)
 
 -- ---- the mark of a report is its bit
 
@@ -186,124 +231,110 @@ module _ (mask base n : ℕ) (h : In base n) (e : isMarked mask base n ≡ false
   added-other i g z =
       marked-same (mask + bitOf base n) mask base i (add-other mask (place base n) (bit-no mask base n e) (place base i) (places-differ base i n g h z))
 
--- the marks with report n, where it is asked for: n is marked where it is, and nothing else changes
-pub with-yes : (w : Asks) (m : Marks) (n : ℕ) → isAsked w n ≡ true → withMark w m n ≡ record { mask = m .mask + bitOf (w .base) n; last = n }
+-- the marks with report n: n is marked where it is not past `to`, and nothing else changes
+pub with-yes : (base to mask n : ℕ) → n ≤ to → withMark base to mask n ≡ mask + bitOf base n
 unfolding withMark
-with-yes w m n e = rw e
+with-yes base to mask n h = rw (le-leb n to h)
 
-pub with-no : (w : Asks) (m : Marks) (n : ℕ) → isAsked w n ≡ false → withMark w m n ≡ m
+pub with-no : (base to mask n : ℕ) → to < n → withMark base to mask n ≡ mask
 unfolding withMark
-with-no w m n e = rw e
+with-no base to mask n h = rw (lt-leb n to h)
 
--- a report asked for is not past `to`
-pub asked-le : (w : Asks) (n : ℕ) → isAsked w n ≡ true → n ≤ w .to
-unfolding isAsked
-asked-le w n e = by-lt (w .to) n (λ l. absurd (true≢false (sym e ∙ rw (lt-leb n (w .to) l)))) (λ l. l)
+module _ (base to mask n : ℕ) (h : to < base + width) (g : base ≤ n) (e : In base n → isMarked mask base n ≡ false) where
+  in-window : n ≤ to → In base n
+  in-window l = record { from = g; below = omega arith }
 
-by-asked {ℓ} : {C : Type ℓ} (w : Asks) (n : ℕ) → (isAsked w n ≡ true → C) → (isAsked w n ≡ false → C) → C
-by-asked {C} w n f g = go (isAsked w n) refl
-  where
-    go : (x : Bool) → isAsked w n ≡ x → C
-    go true e = f e
-    go false e = g e
-
-module _ (w : Asks) (m : Marks) (n : ℕ) (h : w .to < w .base + width) (g : w .base ≤ n) (e : In (w .base) n → isMarked (m .mask) (w .base) n ≡ false) where
-  asked-in : isAsked w n ≡ true → In (w .base) n
-  asked-in a = let l : n ≤ w .to = asked-le w n a in record { from = g; below = omega arith }
-
-  pub with-own : In (w .base) n → isMarked (withMark w m n .mask) (w .base) n ≡ isAsked w n
+  pub with-own : In base n → isMarked (withMark base to mask n) base n ≡ leb n to
   with-own i =
-      by-asked w n
-      (λ a. rw (with-yes w m n a, a) (added-own (m .mask) (w .base) n i (e i)))
-      (λ a. rw (with-no w m n a, a) (e i))
+      by-lt to n
+      (λ l. rw (with-no base to mask n l, lt-leb n to l) (e i))
+      (λ l. rw (with-yes base to mask n l, le-leb n to l) (added-own mask base n i (e i)))
 
-  pub with-other : (i : ℕ) → In (w .base) i → (i ≡ n → ⊥) → isMarked (withMark w m n .mask) (w .base) i ≡ isMarked (m .mask) (w .base) i
+  pub with-other : (i : ℕ) → In base i → (i ≡ n → ⊥) → isMarked (withMark base to mask n) base i ≡ isMarked mask base i
   with-other i j z =
-      by-asked w n
-      (λ a. let k : In (w .base) n = asked-in a in rw (with-yes w m n a) (added-other (m .mask) (w .base) n k (e k) i j z))
-      (λ a. rw (with-no w m n a))
+      by-lt to n
+      (λ l. rw (with-no base to mask n l))
+      (λ l. let k : In base n = in-window l in rw (with-yes base to mask n l) (added-other mask base n k (e k) i j z))
 
-  pub with-fits : m .mask < 2 ^ 64 → withMark w m n .mask < 2 ^ 64
+  pub with-fits : mask < 2 ^ 64 → withMark base to mask n < 2 ^ 64
   with-fits b =
-      by-asked w n
-      (λ a. let k : In (w .base) n = asked-in a in rw (with-yes w m n a) (added-fits (m .mask) (w .base) n k (e k) b))
-      (λ a. rw (with-no w m n a) b)
+      by-lt to n
+      (λ l. rw (with-no base to mask n l) b)
+      (λ l. let k : In base n = in-window l in rw (with-yes base to mask n l) (added-fits mask base n k (e k) b))
 
-  pub with-last : In (w .base) (m .last) → In (w .base) (withMark w m n .last)
-  with-last b = by-asked w n (λ a. rw (with-yes w m n a) (asked-in a)) (λ a. rw (with-no w m n a) b)
-
-  -- no report marked is behind the last
-  with-to-last : ((i : ℕ) → In (w .base) i → isMarked (m .mask) (w .base) i ≡ true → i < n)
-      → ((i : ℕ) → In (w .base) i → isMarked (m .mask) (w .base) i ≡ true → i ≤ m .last)
-      → (i : ℕ) → In (w .base) i → isMarked (withMark w m n .mask) (w .base) i ≡ true → i ≤ withMark w m n .last
-  with-to-last before last i j y =
-      by-asked w n
-      (λ a. rw (with-yes w m n a) (by-eq i n (λ q. omega arith)
-      (λ q. let l : i < n = before i j (sym (with-other i j q) ∙ y) in omega arith)))
-      (λ a. rw (with-no w m n a) (last i j (rw (with-no w m n a) at y)))
-
--- marks that none is behind
-pub settled-none : (base n : ℕ) → Settled base n (record { mask = 0; last = base })
-settled-none base n =
+-- marks that are all before report n′, and n′
+pub settled-with : (base to mask n n′ : ℕ) → to < base + width → base ≤ n′ → n < n′ → Settled base n mask → Settled base n′ (withMark base to mask n′)
+settled-with base to mask n n′ h g l s =
+    let e : In base n′ → isMarked mask base n′ ≡ false = λ i. s .behind n′ i l in
     record {
-      in-bits = omega arith;
-      behind = λ i j l. marked-none base i;
-      last-in = record { from = omega arith; below = omega arith };
-      to-last = λ i j y. absurd (true≢false (sym y ∙ marked-none base i));
+      in-bits = with-fits base to mask n′ h g e (s .in-bits);
+      behind = λ i j k. with-other base to mask n′ h g e i j (λ q. omega (arith, q, k)) ∙ s .behind i j (omega arith);
     }
 
--- marks that are all before report n, and n
-settled-on : (w : Asks) (m : Marks) (n : ℕ) → w .to < w .base + width → w .base ≤ n → m .mask < 2 ^ 64
-    → ((i : ℕ) → In (w .base) i → n ≤ i → isMarked (m .mask) (w .base) i ≡ false) → In (w .base) (m .last)
-    → ((i : ℕ) → In (w .base) i → isMarked (m .mask) (w .base) i ≡ true → i ≤ m .last) → Settled (w .base) n (withMark w m n)
-settled-on w m n h g b f l t =
-    let e : In (w .base) n → isMarked (m .mask) (w .base) n ≡ false = λ i. f n i (omega arith) in
+-- the first mark
+pub settled-start : (base to n : ℕ) → to < base + width → base ≤ n → Settled base n (withMark base to 0 n)
+settled-start base to n h g =
+    let e : In base n → isMarked 0 base n ≡ false = λ _. marked-none base n in
     record {
-      in-bits = with-fits w m n h g e b;
-      behind = λ i j k. with-other w m n h g e i j (λ q. omega (arith, q, k)) ∙ f i j (omega arith);
-      last-in = with-last w m n h g e l;
-      to-last = with-to-last w m n h g e (λ i j y. by-lt i n (λ k. k) (λ k. absurd (true≢false (sym y ∙ f i j k)))) t;
+      in-bits = with-fits base to 0 n h g e (omega arith);
+      behind = λ i j k. with-other base to 0 n h g e i j (λ q. omega (arith, q, k)) ∙ marked-none base i;
     }
 
-pub settled-with : (w : Asks) (m : Marks) (n n′ : ℕ) → w .to < w .base + width → w .base ≤ n′ → n < n′ → Settled (w .base) n m → Settled (w .base) n′ (withMark w m n′)
-settled-with w m n n′ h g l s = settled-on w m n′ h g (s .in-bits) (λ i j k. s .behind i j (omega arith)) (s .last-in) (s .to-last)
+-- ---- the bit of a report, the marks of both, the last report marked and the first
 
--- before any mark
-pub settled-start : (w : Asks) (n : ℕ) → w .to < w .base + width → w .base ≤ n → Settled (w .base) n (withMark w (record { mask = 0; last = w .base }) n)
-settled-start w n h g =
-    let s : Settled (w .base) n (record { mask = 0; last = w .base }) = settled-none (w .base) n in
-    settled-on w (record { mask = 0; last = w .base }) n h g (s .in-bits) (λ i j k. marked-none (w .base) i) (s .last-in) (s .to-last)
-
--- ---- the bit of a report, and the first report marked
-
-pub bit-among : (base among n : ℕ) → In base n → bitAnd among (9223372036854775808 / 2 ^ (n - base)) ≡ cond (isMarked among base n) (bitOf base n) 0
+pub bit-down : (base n : ℕ) → In base n → 9223372036854775808 / 2 ^ (n - base) ≡ bitOf base n
 unfolding bitOf
-bit-among base among n h = ap (bitAnd among) (top-down (n - base) (omega arith)) ∙ and-bit among (place base n) ∙ go (isMarked among base n) refl
+bit-down base n h = top-down (n - base) (omega (arith, h .from, h .below))
+
+pub both-marked : (mask other base n : ℕ) → isMarked (bitAnd mask other) base n ≡ isMarked mask base n && isMarked other base n
+unfolding isMarked bitOf
+both-marked mask other base n =
+    ap (λ (x : ℕ). eqb x 1) (both-bit (place base n) mask other)
+    ∙ go (bit mask (place base n)) (bit other (place base n)) (bit-lt mask (place base n)) (bit-lt other (place base n))
   where
-    go : (x : Bool) → isMarked among base n ≡ x → bit among (place base n) * 2 ^ place base n ≡ cond x (2 ^ place base n) 0
-    go true e = ap (λ (x : ℕ). x * 2 ^ place base n) (bit-yes among base n e) ∙ one-mul (2 ^ place base n)
-    go false e = ap (λ (x : ℕ). x * 2 ^ place base n) (bit-no among base n e) ∙ zero-mul (2 ^ place base n)
+    go : (x y : ℕ) → x < 2 → y < 2 → eqb (min x y) 1 ≡ eqb x 1 && eqb y 1
+    go x y h i =
+        by-eq x 1
+        (λ p.
+        let z : min x y ≡ y = omega arith in rw (z, p))
+        (λ p.
+        let z : min x y ≡ 0 = omega (arith, p, h) in
+        let o : x ≡ 0 = omega (arith, p, h) in
+        rw (z, o))
+
+pub lowest-near : (mask : ℕ) → 0 < mask → mask < 2 ^ 64 → trailingZeros 64 mask < 64
+lowest-near mask p h = lowest-bit 64 mask p h .0
+
+pub last-marked : (base mask : ℕ) → 0 < mask → mask < 2 ^ 64
+    → let r = base + (63 - trailingZeros 64 mask) in In base r × (isMarked mask base r ≡ true) × ((n : ℕ) → In base n → isMarked mask base n ≡ true → n ≤ r)
+last-marked base mask p h = go (trailingZeros 64 mask) (lowest-bit 64 mask p h .0) (lowest-bit 64 mask p h .1)
+  where
+    go : (t : ℕ) → t < 64 → Lowest mask t
+        → In base (base + (63 - t)) × (isMarked mask base (base + (63 - t)) ≡ true) × ((n : ℕ) → In base n → isMarked mask base n ≡ true → n ≤ base + (63 - t))
+    go t l w = (
+      record { from = omega arith; below = omega arith },
+      (let f : place base (base + (63 - t)) ≡ t = omega arith in marked-yes mask base (base + (63 - t)) (ap (bit mask) f ∙ w .own)),
+      λ n i e.
+          by-lt (place base n) t
+          (λ u. absurd (omega (arith, bit-yes mask base n e, w .below (place base n) u)))
+          (λ u. omega (arith, u, i .from, i .below)),
+    )
 
 -- the first report marked stands as far behind the window's first as the number has leading zeros
-pub first-marked : (mask : ℕ) → 0 < mask → mask < 2 ^ 64
-    → (leadingZeros 64 mask < 64)
-    × ((base : ℕ) → (isMarked mask base (base + leadingZeros 64 mask) ≡ true) × ((n : ℕ) → base ≤ n → n < base + leadingZeros 64 mask → isMarked mask base n ≡ false))
+pub first-marked : (mask : ℕ) → 0 < mask → mask < 2 ^ 64 → FirstMarked mask (leadingZeros 64 mask)
 first-marked mask p h = go (leadingZeros 64 mask) (t .0) (t .1) (t .2) (t .3)
   where
     t : (j : ℕ) × (leadingZeros 64 mask + suc j ≡ 64) × (2 ^ j ≤ mask) × (mask < 2 ^ suc j)
     t = leading-top 64 mask p h
 
-    go : (z j : ℕ) → z + suc j ≡ 64 → 2 ^ j ≤ mask → mask < 2 ^ suc j
-        → (z < 64) × ((base : ℕ) → (isMarked mask base (base + z) ≡ true) × ((n : ℕ) → base ≤ n → n < base + z → isMarked mask base n ≡ false))
-    go z j e l u = (
-      omega arith,
-      λ base. (
-        (let f : j ≡ place base (base + z) = omega arith in marked-yes mask base (base + z) (ap (bit mask) (sym f) ∙ top-bit mask j l u)),
-        λ n a b.
-            let f : suc j ≤ place base n = omega arith in
-            marked-no mask base n (above-bit mask (place base n) (omega (arith, pow-mono f))),
-      ),
-    )
+    go : (z j : ℕ) → z + suc j ≡ 64 → 2 ^ j ≤ mask → mask < 2 ^ suc j → FirstMarked mask z
+    go z j e l u = record {
+      near = omega arith;
+      own = λ base. let f : j ≡ place base (base + z) = omega arith in marked-yes mask base (base + z) (ap (bit mask) (sym f) ∙ top-bit mask j l u);
+      before = λ base n a b.
+          let f : suc j ≤ place base n = omega arith in
+          marked-no mask base n (above-bit mask (place base n) (omega (arith, pow-mono f)));
+    }
 
 -- the marks without a report that is marked
 module _ (mask first : ℕ) (h : first < width) (e : isMarked mask 0 first ≡ true) where
@@ -316,11 +347,13 @@ module _ (mask first : ℕ) (h : first < width) (e : isMarked mask 0 first ≡ t
   pub taken-le : (1 * 2 ^ (63 - first)) % 18446744073709551616 ≤ mask
   taken-le = rw taken (bit-le mask (63 - first) own-bit)
 
-  pub without-first : mask < 2 ^ 64
-      → (mask - (1 * 2 ^ (63 - first)) % 18446744073709551616 < mask)
-      × ((base n : ℕ) → In base n
-      → isMarked (mask - (1 * 2 ^ (63 - first)) % 18446744073709551616) base n ≡ cond (eqb n (base + first)) false (isMarked mask base n))
-  without-first b = rw taken (omega (arith, pow-pos (63 - first), bit-le mask (63 - first) own-bit), λ base n i. by-eq n (base + first) (own base n i) (other base n i))
+  pub without-first : Without mask first (mask - (1 * 2 ^ (63 - first)) % 18446744073709551616)
+  without-first =
+      rw taken
+      (record {
+        less = omega (arith, pow-pos (63 - first), bit-le mask (63 - first) own-bit);
+        marks = λ base n i. by-eq n (base + first) (own base n i) (other base n i);
+      })
     where
       own : (base n : ℕ) → In base n → n ≡ base + first → isMarked (mask - 2 ^ (63 - first)) base n ≡ cond (eqb n (base + first)) false (isMarked mask base n)
       own base n i q =
@@ -332,42 +365,9 @@ module _ (mask first : ℕ) (h : first < width) (e : isMarked mask 0 first ≡ t
           rw (ne-eqb n (base + first) z)
           (marked-same (mask - 2 ^ (63 - first)) mask base n (sub-other mask (63 - first) own-bit (place base n) (λ f. z (omega (arith, f, h, i)))))
 
--- ---- the marks with report n, by its bit among others
-
-module _ (base to among : ℕ) (m : Marks) (n : ℕ) where
-  pub with-past : to < n → withMark (asks base to among) m n ≡ m
-  unfolding isAsked
-  with-past h = with-no (asks base to among) m n (rw (lt-leb n to h))
-
-  module _ (h : n ≤ to) (b : ℕ) (f : b ≡ cond (isMarked among base n) (bitOf base n) 0) where
-    asked-as : isAsked (asks base to among) n ≡ isMarked among base n
-    unfolding isAsked
-    asked-as = rw (le-leb n to h)
-
-    marked-where : (b ≡ 0 → ⊥) → isMarked among base n ≡ true
-    marked-where z = go (isMarked among base n) refl
-      where
-        go : (x : Bool) → isMarked among base n ≡ x → x ≡ true
-        go true e = refl
-        go false e = absurd (z (f ∙ rw e))
-
-    unmarked-where : b ≡ 0 → isMarked among base n ≡ false
-    unfolding bitOf
-    unmarked-where z = go (isMarked among base n) refl
-      where
-        go : (x : Bool) → isMarked among base n ≡ x → x ≡ false
-        go true e = let q : b ≡ 2 ^ place base n = f ∙ rw e in absurd (omega (arith, q, z, pow-pos (place base n)))
-        go false e = refl
-
-    own-of : (b ≡ 0 → ⊥) → b ≡ bitOf base n
-    own-of z = f ∙ rw (marked-where z)
-
-    pub with-bit : (b ≡ 0 → ⊥) → record { mask = m .mask + b; last = n } ≡ withMark (asks base to among) m n
-    with-bit z = rw (own-of z) (sym (with-yes (asks base to among) m n (asked-as ∙ marked-where z)))
-
-    pub without-bit : b ≡ 0 → m ≡ withMark (asks base to among) m n
-    without-bit z = sym (with-no (asks base to among) m n (asked-as ∙ unmarked-where z))
-
-    pub bit-fits : base ≤ n → to < base + width → m .mask < 2 ^ 64 → (In base n → isMarked (m .mask) base n ≡ false) → (b ≡ 0 → ⊥) → m .mask + b < 2 ^ 64
-    bit-fits g l i e z =
-        let k : In base n = record { from = g; below = omega arith } in rw (own-of z) (added-fits (m .mask) base n k (e k) i)
+-- what is marked without a report was marked before
+pub marked-less : {mask z mask′ : ℕ} → Without mask z mask′ → (base n : ℕ) → In base n → isMarked mask′ base n ≡ true → isMarked mask base n ≡ true
+marked-less {mask} {z} w base n i e =
+    by-eq n (base + z)
+    (λ q. absurd (true≢false (sym e ∙ w .marks base n i ∙ rw (eq-eqb n (base + z) q))))
+    (λ q. sym (w .marks base n i ∙ rw (ne-eqb n (base + z) q)) ∙ e)

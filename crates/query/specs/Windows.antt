@@ -4,13 +4,12 @@ use mathlib.Core.Path.{_≡_}
 use mathlib.Core.List.{List}
 use mathlib.Core.Bool.{Bool, true, false, cond, _&&_}
 use lib.Dec.{leb, eqb}
-use lib.ListN.{length, getD}
+use lib.ListN.{length, getD, set}
 use Rattle.chains.specs.declared.Cursor.{Cursor}
 use Rattle.chains.specs.declared.Step.the-variants as step
 use Rattle.chains.specs.Chains.{stepAt}
 use Rattle.counters.specs.declared.Counters.{Counters}
-use Rattle.query.specs.declared.Marks.{Marks}
-use Rattle.query.specs.declared.Window.{Window}
+use Rattle.query.specs.declared.Put.{Put}
 use Rattle.query.specs.Listing.{holds}
 use Rattle.query.specs.Needs.{Stands, Sought, ahead, postingsAt, nowhere}
 
@@ -30,42 +29,54 @@ bitOf base n = 2 ^ (63 - (n - base))
 unfoldable pub isMarked : ℕ → ℕ → ℕ → Bool
 isMarked mask base n = eqb (mask / bitOf base n % 2) 1
 
--- which reports of a window are asked for: those up to report `to` that are marked among others
-pub record Asks : Type 0 where
-  pub base : ℕ
-  pub to : ℕ
-  pub among : ℕ
+-- the first report marked stands z behind the window's first
+pub record FirstMarked (mask z : ℕ) : Type 0 where
+  pub near : z < width
+  pub own : (base : ℕ) → isMarked mask base (base + z) ≡ true
+  pub before : (base n : ℕ) → base ≤ n → n < base + z → isMarked mask base n ≡ false
 
-abbrev pub asks : ℕ → ℕ → ℕ → Asks
-asks base to among = record { base = base; to = to; among = among }
+-- the marks without the report that stands z behind the window's first
+pub record Without (mask z mask′ : ℕ) : Type 0 where
+  pub less : mask′ < mask
+  pub marks : (base n : ℕ) → In base n → isMarked mask′ base n ≡ cond (eqb n (base + z)) false (isMarked mask base n)
 
-unfoldable pub isAsked : Asks → ℕ → Bool
-isAsked w n = leb n (w .to) && isMarked (w .among) (w .base) n
+-- ---- the marks of a chain
 
--- a report that a chain holds is marked where it is asked for; the last report marked is kept beside
-unfoldable pub withMark : Asks → Marks → ℕ → Marks
-withMark w m n = cond (isAsked w n) (record { mask = m .mask + bitOf (w .base) n; last = n }) m
+-- the marks with report n, where it is not past `to`
+unfoldable pub withMark : ℕ → ℕ → ℕ → ℕ → ℕ
+withMark base to mask n = cond (leb n to) (mask + bitOf base n) mask
 
--- the marks of a window so far: none behind report n, and none behind the last one marked
-pub record Settled (base n : ℕ) (m : Marks) : Type 0 where
-  pub in-bits : m .mask < 2 ^ 64
-  pub behind : (i : ℕ) → In base i → n < i → isMarked (m .mask) base i ≡ false
-  pub last-in : In base (m .last)
-  pub to-last : (i : ℕ) → In base i → isMarked (m .mask) base i ≡ true → i ≤ m .last
+-- the marks of a window so far: none behind report n
+pub record Settled (base n mask : ℕ) : Type 0 where
+  pub in-bits : mask < 2 ^ 64
+  pub behind : (i : ℕ) → In base i → n < i → isMarked mask base i ≡ false
 
--- a cursor has moved on, posting by posting, and each report that it came to was marked where it is asked for
-pub data Marking (a : List ℕ) (k : Counters) (w : Asks) (c₀ : Cursor) (m₀ : Marks) : Cursor → Marks → Type 0 where
-  none : Marking a k w c₀ m₀ c₀ m₀
-  on : {c c′ : Cursor} {m : Marks} {n f : ℕ} → Marking a k w c₀ m₀ c m → c .number < w .to → stepAt a (k .used) (k .reports) c ≡ step.Posting n f c′
-      → Marking a k w c₀ m₀ c′ (withMark w m n)
+-- a cursor has moved on, posting by posting, and each report that it came to is marked, up to `to`
+pub data Marking (a : List ℕ) (k : Counters) (base to : ℕ) (c₀ : Cursor) (m₀ : ℕ) : Cursor → ℕ → Type 0 where
+  none : Marking a k base to c₀ m₀ c₀ m₀
+  on : {c c′ : Cursor} {m n f : ℕ} → Marking a k base to c₀ m₀ c m → c .number < to → stepAt a (k .used) (k .reports) c ≡ step.Posting n f c′
+      → Marking a k base to c₀ m₀ c′ (withMark base to m n)
 
--- the reports of a chain from cursor c on that are asked for are marked, and no others; cursor r is c moved on to the first report at or past w .to
-pub record MarkedTo (a : List ℕ) (k : Counters) (w : Asks) (c r : Cursor) (m : Marks) : Type 0 where
-  pub sought : Sought a k c (w .to) r
-  pub in-bits : m .mask < 2 ^ 64
-  pub marks : (n : ℕ) → In (w .base) n → isMarked (m .mask) (w .base) n ≡ ahead a k c n && isAsked w n
-  pub last-in : In (w .base) (m .last)
-  pub to-last : (n : ℕ) → In (w .base) n → isMarked (m .mask) (w .base) n ≡ true → n ≤ m .last
+-- the reports of a chain from cursor c up to `to` are marked, and no others; cursor r is c moved on to the first report at or past `to`
+pub record MarkedTo (a : List ℕ) (k : Counters) (base to : ℕ) (c r : Cursor) (mask : ℕ) : Type 0 where
+  pub sought : Sought a k c to r
+  pub in-bits : mask < 2 ^ 64
+  pub marks : (n : ℕ) → In base n → isMarked mask base n ≡ ahead a k c n && leb n to
+
+-- ---- the marked reports in a list
+
+-- marked reports put into a list, one place after another: each time the first one, which is marked no more then
+pub data Puts (base mask₀ : ℕ) (numbers₀ : List ℕ) (n₀ : ℕ) : ℕ → List ℕ → ℕ → Type 0 where
+  none : Puts base mask₀ numbers₀ n₀ mask₀ numbers₀ n₀
+  put : {mask z mask′ n : ℕ} {numbers : List ℕ} → Puts base mask₀ numbers₀ n₀ mask numbers n → FirstMarked mask z → Without mask z mask′ → n < length numbers
+      → Puts base mask₀ numbers₀ n₀ mask′ (set numbers n (base + z)) (n + 1)
+
+-- all of them, or as many as there are places
+pub record PutOut (base mask : ℕ) (numbers₀ : List ℕ) (n₀ : ℕ) (numbers : List ℕ) (r : Put) : Type 0 where
+  pub left : ℕ
+  pub puts : Puts base mask numbers₀ n₀ left numbers (r .filled)
+  pub full : r .full ≡ true → (0 < left) × (r .filled ≡ length numbers)
+  pub all : r .full ≡ false → left ≡ 0
 
 -- ---- the chains of several heads
 
@@ -79,18 +90,3 @@ pub record Streams (a : List ℕ) (k : Counters) (hs : List ℕ) (count low : �
   pub there : count ≤ length hs
   pub stands : (j : ℕ) → j < count → Stands a k (getD cs j nowhere)
   pub same : (j : ℕ) → j < count → (n : ℕ) → low ≤ n → holds (postingsAt a k (getD hs j 0)) n ≡ ahead a k (getD cs j nowhere) n
-
--- a window that goes on: its reports that all chains hold are marked, no report between it and the next window is held by all, and the cursors have
--- all reports from there on
-pub record GoesOn (a : List ℕ) (k : Counters) (hs : List ℕ) (count base : ℕ) (r : Window) : Type 0 where
-  pub in-bits : r .mask < 2 ^ 64
-  pub marks : (n : ℕ) → In base n → isMarked (r .mask) base n ≡ allHold a k hs count n
-  pub inside : (n : ℕ) → In base n → r .next ≤ n → allHold a k hs count n ≡ false
-  pub between : (n : ℕ) → base + width ≤ n → n < r .next → allHold a k hs count n ≡ false
-  pub further : base < r .next
-  pub streams : Streams a k hs count (r .next) (r .cursors)
-
--- or it is the last, and a chain has no report from base on
-pub record WindowAsked (a : List ℕ) (k : Counters) (hs : List ℕ) (count base : ℕ) (r : Window) : Type 0 where
-  pub goes-on : r .ended ≡ false → GoesOn a k hs count base r
-  pub ends : r .ended ≡ true → (n : ℕ) → base ≤ n → allHold a k hs count n ≡ false

@@ -878,19 +878,16 @@ impl<'a> Cursor<'a> {
         true
     }
 
-    /// Goes on to the first posting at or past `to` and marks the reports on the way, up to `to`, that
-    /// are marked among others; gives the marks and the last report marked.
+    /// Goes on to the first posting at or past `to` and marks the reports on the way, up to `to`.
     #[inline(always)]
-    fn mark(&mut self, base: u32, to: u32, among: u64) -> (u64, u32) {
-        let (mut mask, mut last) = (0, base);
+    fn mark(&mut self, base: u32, to: u32) -> u64 {
+        let mut mask = 0;
         loop {
             if self.number <= to {
-                let bit = among & (HIGHEST >> (self.number - base));
-                mask |= bit;
-                last = if bit == 0 { last } else { self.number };
+                mask |= HIGHEST >> (self.number - base);
             }
             if self.number >= to || !self.advance() {
-                return (mask, last);
+                return mask;
             }
         }
     }
@@ -953,7 +950,10 @@ fn fill_all(blocks: &[Block], mut named: Named, numbers: &mut [u32]) -> ListAnsw
             if !cursor.seek(base) {
                 return answer(0, false, filled);
             }
-            (mask, to) = cursor.mark(base, to, mask);
+            mask &= cursor.mark(base, to);
+            if mask != 0 {
+                to = base + (63 - mask.trailing_zeros());
+            }
             next = next.max(u64::from(cursor.number));
         }
         while mask != 0 {
