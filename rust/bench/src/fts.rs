@@ -5,15 +5,26 @@ use crate::sqlite::Index;
 use crate::workload::{Queries, Workload};
 use std::ffi::CString;
 
-/// Rounds of taking all reports, each into an index of its own.
-const INGEST_ROUNDS: usize = 3;
-
-/// Rounds of each kind of query.
-const ROUNDS: usize = 5;
-
 /// FTS5 with an index of its own.
 pub struct Fts {
     index: Index,
+}
+
+/// Texts to be taken or asked for, made before the clock starts.
+pub struct Texts(Vec<CString>);
+
+impl Texts {
+    /// The texts of all reports.
+    pub fn of_reports(workload: &Workload) -> Texts {
+        let text = |places: &Vec<u32>| joined(workload, places, "", " ");
+        Texts(workload.reports.iter().map(text).collect())
+    }
+
+    /// The texts of queries.
+    pub fn of_queries(workload: &Workload, queries: &Queries) -> Texts {
+        let text = |places: &Vec<u32>| joined(workload, places, "\"", " AND ");
+        Texts(queries.places.iter().map(text).collect())
+    }
 }
 
 impl Fts {
@@ -24,41 +35,31 @@ impl Fts {
         }
     }
 
-    /// Takes all reports in one transaction: nanoseconds a posting. Then all parts of the index are
-    /// merged, off the clock, so that queries are at their fastest.
-    pub fn ingest(&mut self, workload: &Workload) -> f64 {
-        let text = |places: &Vec<u32>| joined(workload, places, "", " ");
-        let texts: Vec<CString> = workload.reports.iter().map(text).collect();
-        let mut times = Times::default();
-        for _ in 0..INGEST_ROUNDS {
-            self.index = Index::new();
-            times.take(|| {
-                for (number, text) in (1..).zip(&texts) {
-                    self.index.add(number, text);
-                }
-                self.index.commit();
-            });
-        }
-        self.index.optimize();
-        times.best(workload.postings)
+    /// Takes all reports into a new index, in one transaction: one round.
+    pub fn ingest(&mut self, texts: &Texts, times: &mut Times) {
+        self.index = Index::new();
+        times.take(|| {
+            for (number, text) in (1..).zip(&texts.0) {
+                self.index.add(number, text);
+            }
+            self.index.commit();
+        });
     }
 
-    /// Lists all queries of one kind: nanoseconds a query. They must find so many reports.
-    pub fn query(&mut self, workload: &Workload, queries: &Queries, found: usize) -> f64 {
-        let text = |places: &Vec<u32>| joined(workload, places, "\"", " AND ");
-        let texts: Vec<CString> = queries.places.iter().map(text).collect();
-        let mut numbers = vec![0; workload.reports.len()];
-        let mut times = Times::default();
-        for _ in 0..ROUNDS {
-            let mut filled = 0;
-            times.take(|| {
-                for text in &texts {
-                    filled += self.index.list(text, &mut numbers);
-                }
-            });
-            assert_eq!(filled, found, "FTS5 lists another number of reports");
-        }
-        times.best(texts.len())
+    /// Merges all parts of the index, off the clock, so that queries are at their fastest.
+    pub fn merge(&mut self) {
+        self.index.optimize();
+    }
+
+    /// Lists all queries: one round. They must find so many reports.
+    pub fn list(&mut self, texts: &Texts, numbers: &mut [u32], found: usize, times: &mut Times) {
+        let mut filled = 0;
+        times.take(|| {
+            for text in &texts.0 {
+                filled += self.index.list(text, numbers);
+            }
+        });
+        assert_eq!(filled, found, "FTS5 lists another number of reports");
     }
 }
 

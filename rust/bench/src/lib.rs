@@ -5,7 +5,7 @@
 //! |---|---|
 //! | [`workload`] | the reports and queries that are measured |
 //! | [`plain`] | the four calls in plain Rust, written for speed |
-//! | [`sides`] | the proved library and plain Rust, each with an index of its own |
+//! | [`memory`] | the memory of an index, lent to the proved library and to plain Rust in turns |
 //! | [`links`] | the links of chains, followed alone |
 //! | [`fts`] | FTS5 on the same workload, where SQLite is installed |
 //! | `sqlite` | the C functions of SQLite; all `unsafe` stands there |
@@ -20,9 +20,9 @@ pub mod fts;
 #[path = "no_fts.rs"]
 pub mod fts;
 pub mod links;
+pub mod memory;
 pub mod plain;
 pub mod rounds;
-pub mod sides;
 #[cfg(sqlite)]
 #[allow(unsafe_code)]
 mod sqlite;

@@ -5,7 +5,7 @@ use std::collections::HashMap;
 
 use report_index::BLOCK_BYTES;
 
-use crate::sides::Side;
+use crate::memory::Memory;
 use crate::workload::{Queries, Workload};
 
 /// Where a head has the number of its tail block, the length of its term and the term.
@@ -13,7 +13,7 @@ const TAIL: usize = 4;
 const LENGTH: usize = 17;
 const TERM: usize = 18;
 
-/// The chains of some queries in the arena of one side.
+/// The chains of some queries in an arena.
 pub struct Chains<'a> {
     arena: &'a [u8],
     /// The heads of each query's terms.
@@ -22,9 +22,9 @@ pub struct Chains<'a> {
 
 impl<'a> Chains<'a> {
     /// The chains of the queries' terms, all of which are held.
-    pub fn new(workload: &Workload, queries: &Queries, side: &'a Side) -> Chains<'a> {
-        let arena = side.arena();
-        let filled = side.table.iter().filter(|entry| **entry != 0);
+    pub fn new(workload: &Workload, queries: &Queries, memory: &'a Memory) -> Chains<'a> {
+        let arena = memory.arena();
+        let filled = memory.table.iter().filter(|entry| **entry != 0);
         let by_term: HashMap<&[u8], u32> = filled
             .map(|entry| (term(arena, entry - 1), entry - 1))
             .collect();

@@ -5,20 +5,25 @@
 
 use std::process::ExitCode;
 
-use bench::fts::Fts;
+use bench::fts::{Fts, Texts};
 use bench::links::Chains;
+use bench::memory::{Lists, Memory};
 use bench::plain::PLAIN;
 use bench::rounds::Times;
-use bench::sides::{Lists, Side};
 use bench::workload::{Queries, Workload};
-use report_index::calls::LIBRARY;
+use report_index::calls::{Calls, LIBRARY};
 use report_index::BLOCK_BYTES;
+
+/// The two that take turns.
+const SIDES: [Calls; 2] = [LIBRARY, PLAIN];
 
 /// The slots of the table: at most half of them are filled, and there are 50,000 terms.
 const SLOTS: usize = 1 << 17;
 
-/// Rounds of taking all reports.
-const INGEST_ROUNDS: usize = 5;
+/// Rounds of taking all reports, fewer where they are many; an even number.
+fn ingest_rounds(reports: usize) -> usize {
+    (500_000 / reports).clamp(3, 8) * 2
+}
 
 /// Rounds of each kind of query.
 const QUERY_ROUNDS: usize = 15;
@@ -46,83 +51,124 @@ fn main() -> ExitCode {
 fn measure(reports: usize) {
     let workload = Workload::new(reports);
     let blocks = workload.postings / 8 + 60_000;
-    let mut sides = [LIBRARY, PLAIN].map(|calls| Side::new(calls, blocks, SLOTS));
+    let mut memory = Memory::new(blocks, SLOTS);
     let mut fts = Fts::new();
     println!("### {reports} reports, {} postings\n", workload.postings);
     println!("| what | library | plain Rust | library / plain Rust | of the medians | FTS5 | FTS5 / library |");
     println!("|---|---|---|---|---|---|---|");
-    measure_ingest(&workload, &mut sides, &mut fts);
+    let rounds = measure_ingest(&workload, &mut memory, &mut fts);
+    print_row("a posting taken", NANOSECONDS, &rounds);
     let mut links = Vec::new();
     for queries in workload.queries() {
-        let (times, parts, found) = measure_queries(&workload, &queries, &sides);
+        let (rounds, found) = measure_queries(&workload, &queries, &memory, Some(&mut fts));
         let name = format!("{}; {} found", queries.name, found / queries.places.len());
-        let fts = fts.query(&workload, &queries, found);
-        print_row(&name, MICROSECONDS, &times, parts, Some(fts));
+        print_row(&name, MICROSECONDS, &rounds);
         if !queries.are_of_one_term() {
-            links.push(links_row(&workload, &queries, &sides, fts));
+            links.push(links_row(&workload, &queries, &memory, &rounds));
         }
     }
     for queries in workload.readings() {
-        let (times, parts, _) = measure_queries(&workload, &queries, &sides);
+        let (rounds, _) = measure_queries(&workload, &queries, &memory, None);
         let name = format!("{} read for damage, nothing listed", queries.name);
-        print_row(&name, MICROSECONDS, &times, parts, None);
+        print_row(&name, MICROSECONDS, &rounds);
     }
     print_links(&links);
-    print_sizes(&workload, &sides[0]);
+    print_sizes(&workload, &memory);
 }
 
-/// Takes all reports, in alternating rounds. The start of an index is not on the clock.
-fn measure_ingest(workload: &Workload, sides: &mut [Side; 2], fts: &mut Fts) {
-    let mut times = [Times::default(), Times::default()];
-    for _ in 0..INGEST_ROUNDS {
-        for (side, times) in sides.iter_mut().zip(&mut times) {
-            side.start();
-            times.take(|| side.ingest(&workload.frames));
-        }
+/// The rounds behind one row of the table: those of the library and of plain Rust, and of how many
+/// parts each is, and those of FTS5, none where it is not measured.
+#[derive(Default)]
+struct Rounds {
+    sides: [Times; 2],
+    parts: usize,
+    fts: Times,
+    fts_parts: usize,
+}
+
+impl Rounds {
+    /// The nanoseconds of FTS5's best round, for one part.
+    fn fts(&self) -> Option<f64> {
+        (!self.fts.is_empty()).then(|| self.fts.best(self.fts_parts))
     }
-    sides[0].assert_same(&sides[1]);
-    let fts = fts.ingest(workload);
-    print_row(
-        "a posting taken",
-        NANOSECONDS,
-        &times,
-        workload.postings,
-        Some(fts),
-    );
 }
 
-/// Lists all queries of one kind, in alternating rounds: the times of rounds of so many queries, and
-/// how many reports all queries of the kind find together.
+/// Takes all reports, in alternating rounds; who comes first, the library or plain Rust, alternates
+/// too. The start of an index is not on the clock. Fails unless both leave the same bytes, entries
+/// and counters.
+fn measure_ingest(workload: &Workload, memory: &mut Memory, fts: &mut Fts) -> Rounds {
+    let [library, plain] = SIDES.map(|calls| memory.left(&calls, &workload.frames));
+    assert!(library == plain, "arena, table or counters differ");
+    let texts = Texts::of_reports(workload);
+    let mut rounds = Rounds {
+        parts: workload.postings,
+        fts_parts: workload.postings,
+        ..Rounds::default()
+    };
+    for round in 0..ingest_rounds(workload.reports.len()) {
+        for side in [round % 2, 1 - round % 2] {
+            memory.start(&SIDES[side]);
+            rounds.sides[side].take(|| memory.ingest(&SIDES[side], &workload.frames));
+        }
+        fts.ingest(&texts, &mut rounds.fts);
+    }
+    fts.merge();
+    rounds
+}
+
+/// Lists all queries of one kind, in alternating rounds, each after a pass off the clock, so that
+/// whoever comes before does not matter; gives the rounds, and how many reports all queries of the
+/// kind find together.
 fn measure_queries(
     workload: &Workload,
     queries: &Queries,
-    sides: &[Side; 2],
-) -> ([Times; 2], usize, usize) {
+    memory: &Memory,
+    mut fts: Option<&mut Fts>,
+) -> (Rounds, usize) {
     let frames = queries.frames(&workload.terms);
+    let texts = Texts::of_queries(workload, queries);
     let mut lists = Lists::new(workload.reports.len(), queries.are_of_one_term());
-    let found = compare_results(sides, &frames, &mut lists);
-    let passes = passes(&sides[1], &frames, &mut lists);
-    let mut times = [Times::default(), Times::default()];
+    let found = compare_results(memory, &frames, &mut lists);
+    let passes = passes(memory, &frames, &mut lists);
+    let mut rounds = Rounds {
+        parts: passes * frames.len(),
+        fts_parts: frames.len(),
+        ..Rounds::default()
+    };
     for _ in 0..QUERY_ROUNDS {
-        for (side, times) in sides.iter().zip(&mut times) {
-            times.take(|| {
-                for frame in frames.iter().cycle().take(passes * frames.len()) {
-                    side.list(frame, &mut lists);
-                }
-            });
+        for (calls, times) in SIDES.iter().zip(&mut rounds.sides) {
+            list_frames(memory, calls, &frames, 1, &mut lists);
+            times.take(|| list_frames(memory, calls, &frames, passes, &mut lists));
+        }
+        if let Some(fts) = &mut fts {
+            fts.list(&texts, &mut lists.numbers, found, &mut Times::default());
+            fts.list(&texts, &mut lists.numbers, found, &mut rounds.fts);
         }
     }
-    (times, passes * frames.len(), found)
+    (rounds, found)
+}
+
+/// Lists all queries, so many times one after another.
+fn list_frames(
+    memory: &Memory,
+    calls: &Calls,
+    frames: &[Vec<u8>],
+    passes: usize,
+    lists: &mut Lists,
+) {
+    for frame in frames.iter().cycle().take(passes * frames.len()) {
+        memory.list(calls, frame, lists);
+    }
 }
 
 /// Fails unless both sides list the same; gives how many reports all queries find together.
-fn compare_results(sides: &[Side; 2], frames: &[Vec<u8>], lists: &mut Lists) -> usize {
+fn compare_results(memory: &Memory, frames: &[Vec<u8>], lists: &mut Lists) -> usize {
     let mut found = 0;
     for frame in frames {
-        let filled = sides[0].list(frame, lists);
+        let filled = memory.list(&LIBRARY, frame, lists);
         let library = lists.clone();
         assert_eq!(
-            sides[1].list(frame, lists),
+            memory.list(&PLAIN, frame, lists),
             filled,
             "the numbers of reports differ"
         );
@@ -133,37 +179,30 @@ fn compare_results(sides: &[Side; 2], frames: &[Vec<u8>], lists: &mut Lists) -> 
 }
 
 /// How often the queries are repeated in a round, so that it takes some milliseconds.
-fn passes(side: &Side, frames: &[Vec<u8>], lists: &mut Lists) -> usize {
+fn passes(memory: &Memory, frames: &[Vec<u8>], lists: &mut Lists) -> usize {
     let mut time = Times::default();
-    time.take(|| {
-        for frame in frames {
-            side.list(frame, lists);
-        }
-    });
+    time.take(|| list_frames(memory, &PLAIN, frames, 1, lists));
     (QUERY_ROUND / time.best(1)).ceil() as usize
 }
 
-/// Follows the links of the queries' chains alone, as often as the other rounds and in turns with
-/// the library's listings, so that the caches hold as little of the chains as they do there: a row
-/// with the best round, and a third of FTS5's time for comparison.
-fn links_row(workload: &Workload, queries: &Queries, sides: &[Side; 2], fts: f64) -> String {
+/// Follows the links of the queries' chains alone, each round after a pass of the library's listings:
+/// a row with the best round, and a third of FTS5's time for comparison.
+fn links_row(workload: &Workload, queries: &Queries, memory: &Memory, rounds: &Rounds) -> String {
     let frames = queries.frames(&workload.terms);
     let mut lists = Lists::new(workload.reports.len(), false);
-    let passes = passes(&sides[0], &frames, &mut lists);
-    let chains = Chains::new(workload, queries, &sides[1]);
+    let chains = Chains::new(workload, queries, memory);
     let number = frames.len();
     let blocks = chains.follow() / number;
     let mut times = Times::default();
     for _ in 0..QUERY_ROUNDS {
-        for frame in frames.iter().cycle().take(passes * number) {
-            sides[0].list(frame, &mut lists);
-        }
+        list_frames(memory, &LIBRARY, &frames, 1, &mut lists);
         times.take(|| assert_eq!(chains.follow() / number, blocks, "the chains' blocks"));
     }
     let [best, median] = [times.best(number), times.median(number)].map(|time| time / 1_000.0);
-    let third = fts / 3.0 / 1_000.0;
+    let third = |fts: f64| format!("{:.2}", fts / 3.0 / 1_000.0);
+    let third = rounds.fts().map_or(String::new(), third);
     let name = queries.name;
-    format!("| {name} | {blocks} | {best:.2} | {median:.2} | {third:.2} |")
+    format!("| {name} | {blocks} | {best:.2} | {median:.2} | {third} |")
 }
 
 fn print_links(rows: &[String]) {
@@ -181,12 +220,14 @@ const NANOSECONDS: Unit = ("nanoseconds", 1.0, 1);
 
 const MICROSECONDS: Unit = ("microseconds", 1_000.0, 2);
 
-/// Writes one row: the best rounds, for one of so many parts.
-fn print_row(what: &str, unit: Unit, times: &[Times; 2], parts: usize, fts: Option<f64>) {
+/// Writes one row: the best rounds, for one part.
+fn print_row(what: &str, unit: Unit, rounds: &Rounds) {
     let (name, nanoseconds, digits) = unit;
-    let [library, plain] = [times[0].best(parts), times[1].best(parts)];
-    let medians = times[0].median(parts) / times[1].median(parts);
+    let [library, plain] = &rounds.sides;
+    let medians = library.median(rounds.parts) / plain.median(rounds.parts);
+    let [library, plain] = [library.best(rounds.parts), plain.best(rounds.parts)];
     let shown = |time: f64| format!("{:.digits$}", time / nanoseconds);
+    let fts = rounds.fts();
     let ratio = fts.map_or(String::new(), |fts| format!("{:.1}", fts / library));
     println!(
         "| {what}, {name} | {} | {} | {:.2} | {medians:.2} | {} | {ratio} |",
@@ -197,13 +238,13 @@ fn print_row(what: &str, unit: Unit, times: &[Times; 2], parts: usize, fts: Opti
     );
 }
 
-fn print_sizes(workload: &Workload, side: &Side) {
+fn print_sizes(workload: &Workload, memory: &Memory) {
     let postings = workload.postings as f64;
-    let arena = f64::from(side.counters.used) * BLOCK_BYTES as f64 / postings;
-    let table = (side.table.len() * 4) as f64 / postings;
+    let arena = f64::from(memory.counters.used) * BLOCK_BYTES as f64 / postings;
+    let table = (memory.table.len() * 4) as f64 / postings;
     println!(
         "\n{} terms, {} blocks.",
-        side.counters.terms, side.counters.used
+        memory.counters.terms, memory.counters.used
     );
     println!(
         "Bytes a posting: arena {arena:.3}, table {table:.3}, together {:.3}.\n",

@@ -1,10 +1,26 @@
 //! What stands for FTS5 where SQLite is not installed: nothing is measured.
 
+use crate::rounds::Times;
 use crate::workload::{Queries, Workload};
 
 /// No index.
 #[derive(Default)]
 pub struct Fts;
+
+/// No texts.
+pub struct Texts;
+
+impl Texts {
+    /// None.
+    pub fn of_reports(_workload: &Workload) -> Texts {
+        Texts
+    }
+
+    /// None.
+    pub fn of_queries(_workload: &Workload, _queries: &Queries) -> Texts {
+        Texts
+    }
+}
 
 impl Fts {
     /// Says that FTS5 is left out.
@@ -15,12 +31,18 @@ impl Fts {
     }
 
     /// Nothing.
-    pub fn ingest(&mut self, _workload: &Workload) -> f64 {
-        f64::NAN
-    }
+    pub fn ingest(&mut self, _texts: &Texts, _times: &mut Times) {}
 
     /// Nothing.
-    pub fn query(&mut self, _workload: &Workload, _queries: &Queries, _found: usize) -> f64 {
-        f64::NAN
+    pub fn merge(&mut self) {}
+
+    /// Nothing.
+    pub fn list(
+        &mut self,
+        _texts: &Texts,
+        _numbers: &mut [u32],
+        _found: usize,
+        _times: &mut Times,
+    ) {
     }
 }

@@ -16,6 +16,11 @@ impl Times {
         self.rounds.push(clock.elapsed());
     }
 
+    /// Whether no round was run.
+    pub fn is_empty(&self) -> bool {
+        self.rounds.is_empty()
+    }
+
     /// The nanoseconds of the fastest round, for one of `parts` equal parts of its work.
     pub fn best(&self, parts: usize) -> f64 {
         let best = self.rounds.iter().min().expect("a round");

@@ -1,65 +1,64 @@
-//! The two implementations over the same bytes: the proved library and plain Rust.
+//! The memory of one index, lent to the proved library and to plain Rust in turns. Both work on the
+//! same pages, so that neither has the better place in the caches.
 
 use std::ops::Range;
 
 use report_index::calls::Calls;
 use report_index::{Counters, BLOCK_BYTES};
 
-/// One implementation, with an index of its own.
-pub struct Side {
+/// Arena, table and counters.
+pub struct Memory {
     /// Memory with the arena in it, from the first multiple of 64 bytes on, so that each block lies in
     /// one line of the caches.
-    memory: Vec<u8>,
+    bytes: Vec<u8>,
     arena: Range<usize>,
     /// The table.
     pub table: Vec<u32>,
     /// The counters.
     pub counters: Counters,
-    calls: Calls,
 }
 
-impl Side {
-    /// An implementation with an arena of so many blocks and a table of so many slots. Every byte is
-    /// written once, so that no page is missing when the clock runs.
-    pub fn new(calls: Calls, blocks: usize, slots: usize) -> Side {
-        let memory = vec![0xEE; (blocks + 1) * BLOCK_BYTES];
-        let from = memory.as_ptr().align_offset(BLOCK_BYTES);
-        Side {
+impl Memory {
+    /// An arena of so many blocks and a table of so many slots. Every byte is written once, so that no
+    /// page is missing when the clock runs.
+    pub fn new(blocks: usize, slots: usize) -> Memory {
+        let bytes = vec![0xEE; (blocks + 1) * BLOCK_BYTES];
+        let from = bytes.as_ptr().align_offset(BLOCK_BYTES);
+        Memory {
             arena: from..from + blocks * BLOCK_BYTES,
-            memory,
+            bytes,
             table: vec![0xEE; slots],
             counters: Counters::default(),
-            calls,
         }
     }
 
     /// The arena.
     pub fn arena(&self) -> &[u8] {
-        &self.memory[self.arena.clone()]
+        &self.bytes[self.arena.clone()]
     }
 
     /// Starts the index.
-    pub fn start(&mut self) {
-        (self.calls.start)(&mut self.table, &mut self.counters);
+    pub fn start(&mut self, calls: &Calls) {
+        (calls.start)(&mut self.table, &mut self.counters);
     }
 
     /// Takes all reports.
-    pub fn ingest(&mut self, frames: &[Vec<u8>]) {
-        let arena = &mut self.memory[self.arena.clone()];
+    pub fn ingest(&mut self, calls: &Calls, frames: &[Vec<u8>]) {
+        let arena = &mut self.bytes[self.arena.clone()];
         for frame in frames {
-            let answer = (self.calls.report)(arena, &mut self.table, &mut self.counters, frame);
+            let answer = (calls.report)(arena, &mut self.table, &mut self.counters, frame);
             assert_eq!(answer.refusal, 0, "a report of the workload is refused");
         }
     }
 
     /// Lists one query whole and tells how many places were filled. A list of counts is there for
     /// one term only.
-    pub fn list(&self, frame: &[u8], lists: &mut Lists) -> usize {
+    pub fn list(&self, calls: &Calls, frame: &[u8], lists: &mut Lists) -> usize {
         let Lists { numbers, counts } = lists;
         let (arena, table, counters) = (self.arena(), &self.table, &self.counters);
         let answer = match counts {
-            Some(counts) => (self.calls.list_one)(arena, table, counters, frame, numbers, counts),
-            None => (self.calls.list_all)(arena, table, counters, frame, numbers),
+            Some(counts) => (calls.list_one)(arena, table, counters, frame, numbers, counts),
+            None => (calls.list_all)(arena, table, counters, frame, numbers),
         };
         assert_eq!(
             (answer.refusal, answer.more),
@@ -69,11 +68,12 @@ impl Side {
         answer.filled as usize
     }
 
-    /// Fails unless both sides left the same bytes, entries and counters.
-    pub fn assert_same(&self, other: &Side) {
-        assert!(self.arena() == other.arena(), "the arenas differ");
-        assert!(self.table == other.table, "the tables differ");
-        assert_eq!(self.counters, other.counters);
+    /// What an index of all reports leaves: the whole arena, the table and the counters.
+    pub fn left(&mut self, calls: &Calls, frames: &[Vec<u8>]) -> (Vec<u8>, Vec<u32>, Counters) {
+        self.start(calls);
+        self.ingest(calls, frames);
+        let arena = self.arena().to_vec();
+        (arena, self.table.clone(), self.counters)
     }
 }
 
