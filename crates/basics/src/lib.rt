@@ -1,4 +1,6 @@
 // What every crate above shares: 32-bit numbers in byte slices, highest byte first, and whether two slices are the same. The laws on numbers, lists and tables stand in proofs/.
+#![tactic(auto)]
+
 ghost use Rattle.std.specs.Prelude.{◌≡◌, ◌+◌, ◌≤◌, ◌<◌, length};
 ghost use Rattle.std.proofs.lemmas.List.Edits.{sets};
 ghost use Rattle.basics.specs.Words.{word, word_at};

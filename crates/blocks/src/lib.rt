@@ -1,4 +1,6 @@
 // Blocks of the arena (document 01, "Blocks"): the fields of a head, opening a head for a new term, adding a posting, opening the next block.
+#![tactic(auto)]
+
 ghost use Rattle.std.specs.Prelude.{◌≡◌, true, [], ◌+◌, ◌-◌, ◌*◌, ◌≤◌, ◌<◌, length};
 ghost use Rattle.std.proofs.lemmas.List.Edits.{sets};
 ghost use Rattle.postings.specs.Coding.{code};
@@ -10,7 +12,7 @@ ghost use Rattle.blocks.specs.Writes.{padded, growing, changing, open_head, fits
 use postings::{BGap, DGap};
 
 // The fields of a head but its link and its term.
-#[derive(Drop)]
+#[derive(Clone, Copy)]
 pub struct Head {
     pub tail: u32,
     pub last: u32,

@@ -1,4 +1,6 @@
 // Chains of blocks (document 01, "Blocks"): a cursor that gives one posting after another, and reading a whole chain for damage.
+#![tactic(auto)]
+
 ghost use Rattle.std.specs.Prelude.{◌≡◌, cond, ◌||◌, ℕ, ◌+◌, ◌≤◌, ◌<◌, ltb, leb, eqb, length, get_or};
 ghost use Rattle.sums.specs.Adding.{Bounded};
 ghost use Rattle.blocks.specs.Fields.{max_word, block_size, place, link_of, part_of};
@@ -10,7 +12,7 @@ use postings::Decoded;
 
 // A place in a chain: the block and the offset in it, the last number read, the block's first number (0 before its first posting), how many more
 // blocks there can be; and from the head, the tail block and the write offset there.
-#[derive(Drop)]
+#[derive(Clone, Copy)]
 pub struct Cursor {
     pub tail: u32,
     pub end: usize,
@@ -21,7 +23,7 @@ pub struct Cursor {
     pub left: u32,
 }
 
-#[derive(Drop)]
+#[derive(Clone, Copy)]
 pub enum Step {
     Posting {
         number: u32,
@@ -151,7 +153,7 @@ pub fn advance(arena: &[u8], used: u32, reports: u32, c: Cursor) -> Step
 // ---- several steps within a block's part
 
 // Where reading on in a part stopped: the offset and the number behind the last posting passed, and how many were passed.
-#[derive(Drop)]
+#[derive(Clone, Copy)]
 pub struct Passed {
     pub at: usize,
     pub number: u32,
@@ -278,7 +280,7 @@ pub fn pass_part(arena: &[u8], c: Cursor, to: u32) -> Cursor
 // ---- a reader that holds the arena and a place
 
 // The used blocks of an arena, the reports there are, and the place of the next posting.
-#[derive(Drop)]
+#[derive(Clone, Copy)]
 pub struct ChainReader<'a> {
     pub arena: &'a [u8],
     pub used: u32,
@@ -328,7 +330,7 @@ pub fn read_next(arena: &[u8], used: u32, reports: u32, place: Cursor) -> Step
 // ---- a whole chain
 
 // What was read of a block's part: its first number, 0 where no sound posting stands there, and where reading on from behind it stopped.
-#[derive(Drop)]
+#[derive(Clone, Copy)]
 pub struct PartRead {
     pub first: u32,
     pub rest: Passed,

@@ -1,10 +1,12 @@
 // The counters of an index (document 01, "Memory lent to the index"). Inside the library they travel by value.
+#![tactic(auto)]
+
 ghost use Rattle.std.specs.Prelude.{◌≡◌};
 ghost use Rattle.counters.specs.Counters.{max_terms, wrong_counters};
 
 // Blocks used, terms held, reports held.
 #[repr(C)]
-#[derive(Drop)]
+#[derive(Clone, Copy)]
 pub struct Counters {
     pub used: u32,
     pub terms: u32,

@@ -1,5 +1,7 @@
 // The desk program (document 01, "The desk program"): reads frames from standard input and writes one line for each. The lines for a whole input are
 // `deskOutput` of specs/Desk.antt; the functions here are proved against it up to the calls that read and write.
+#![tactic(auto)]
+
 ghost use Rattle.std.specs.Prelude.{◌≡◌, ◌+◌, ◌-◌, ◌*◌, ◌≤◌, ◌<◌, [], ◌∷◌, length, get_or, take, drop};
 ghost use Rattle.std.proofs.lemmas.List.Edits.{sets};
 ghost use Rattle.frames.specs.Frames.{body_length};
@@ -15,7 +17,7 @@ use ingest::ReportAnswer;
 use libc::{STDERR_FILENO, STDIN_FILENO, STDOUT_FILENO};
 
 // The call that a frame's kind asks for.
-#[derive(Drop)]
+#[derive(Clone, Copy)]
 enum Kind {
     Report,
     One,
@@ -24,14 +26,14 @@ enum Kind {
 }
 
 // The counters after a frame, and where its line ends in the output.
-#[derive(Drop)]
+#[derive(Clone, Copy)]
 struct Answer {
     counters: Counters,
     end: usize,
 }
 
 // What is to be done next: go on with the bytes at hand, read more, or end.
-#[derive(Drop)]
+#[derive(Clone, Copy)]
 enum Next {
     Settle,
     Read,
@@ -39,7 +41,7 @@ enum Next {
 }
 
 // How far some frames at the front of the input were answered.
-#[derive(Drop)]
+#[derive(Clone, Copy)]
 struct Settled {
     next: Next,
     counters: Counters,
@@ -48,7 +50,7 @@ struct Settled {
 }
 
 // The same, once the bytes that are left stand at the front of the buffer: so many are held.
-#[derive(Drop)]
+#[derive(Clone, Copy)]
 struct Turn {
     next: Next,
     counters: Counters,
@@ -57,7 +59,7 @@ struct Turn {
 }
 
 // What a read gave: so many bytes, the end of the input, or a failure.
-#[derive(Drop)]
+#[derive(Clone, Copy)]
 enum Piece {
     Bytes(usize),
     End,

@@ -1,4 +1,6 @@
 // Reading a frame (document 01, "Frames"): refusals 1 to 7, and a cursor that hands out one line or term after another.
+#![tactic(auto)]
+
 ghost use Rattle.std.specs.Prelude.{◌≡◌, true, false, ◌+◌, ◌≤◌, ◌<◌, length};
 ghost use Rattle.basics.specs.Lists.{any, same};
 ghost use Rattle.frames.specs.Refusals.{first_of};
@@ -28,27 +30,27 @@ ghost use Rattle.frames.specs.Repeats.{chain, Chained};
 ghost use Rattle.frames.specs.Read.{Folds, max_lines, Hashed, Read};
 
 // An offset of a frame at which a field starts, or the frame's end.
-#[derive(Drop)]
+#[derive(Clone, Copy)]
 pub struct Cursor {
     pub at: usize,
 }
 
 // A report's frame: refused, or how many lines it has.
-#[derive(Drop)]
+#[derive(Clone, Copy)]
 pub enum Report {
     Refused(u8),
     Lines(usize),
 }
 
 // Refusals 4 to 6, or 0 and how many lines there are.
-#[derive(Drop)]
+#[derive(Clone, Copy)]
 pub struct LinesRead {
     pub refusal: u8,
     pub count: usize,
 }
 
 // A query's frame: refused, or the number from which to list and where its first term stands.
-#[derive(Drop)]
+#[derive(Clone, Copy)]
 pub enum Query {
     Refused(u8),
     Terms { start: u32, terms: Cursor },

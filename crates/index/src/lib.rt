@@ -1,5 +1,7 @@
 // The outer calls of the index (document 01, "Memory lent to the index"): thin over the cores that take the counters by value. Exported for C and
 // Rust under these names; include/report_index.h documents them.
+#![tactic(auto)]
+
 ghost use Rattle.std.specs.Prelude.{◌≡◌, [], length, replicate};
 ghost use Rattle.counters.specs.Counters.{memory};
 ghost use Rattle.ingest.specs.Report.{report_call};

@@ -1,4 +1,6 @@
 // Taking a report (document 01, "Taking a report"): all lines are judged before a byte is written.
+#![tactic(auto)]
+
 ghost use Rattle.std.specs.Prelude.{◌≡◌, List, ℕ, ◌+◌, ◌-◌, ◌≤◌, ◌<◌, length, get_or};
 ghost use Rattle.terms.specs.Terms.{max_term, fnv1a};
 ghost use Rattle.frames.specs.Frames.{max_body, lines, report_refusal, report_lines};
@@ -19,21 +21,21 @@ use frames::{Cursor, Report};
 use lookup::Found;
 
 #[repr(C)]
-#[derive(Drop)]
+#[derive(Clone, Copy)]
 pub struct ReportAnswer {
     pub refusal: u8,
     pub number: u32,
 }
 
 // The answer with the counters that the call leaves.
-#[derive(Drop)]
+#[derive(Clone, Copy)]
 pub struct Taken {
     pub answer: ReportAnswer,
     pub counters: Counters,
 }
 
 // Where a line goes: a new term into an empty slot, a posting that fits in the tail of a head's chain, one that does not.
-#[derive(Drop)]
+#[derive(Clone, Copy)]
 pub enum Place {
     Damaged,
     New(u32),
@@ -42,7 +44,7 @@ pub enum Place {
 }
 
 // What the lines need together.
-#[derive(Drop)]
+#[derive(Clone, Copy)]
 pub struct Plan {
     pub damaged: bool,
     pub terms: u32,
@@ -50,7 +52,7 @@ pub struct Plan {
 }
 
 // The counters after some lines, and whether writing stopped at one.
-#[derive(Drop)]
+#[derive(Clone, Copy)]
 pub struct Written {
     pub stopped: bool,
     pub counters: Counters,

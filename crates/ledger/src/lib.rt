@@ -1,4 +1,6 @@
 // The plain ledger (document 01, "The plain ledger of demand 3"), and that index and ledger agree. Theorems only.
+#![tactic(auto)]
+
 ghost use Rattle.ledger.specs.Calls.{Claim};
 ghost use Rattle.ledger.specs.Room.{NoRoom};
 

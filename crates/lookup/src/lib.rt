@@ -1,4 +1,6 @@
 // Finding a term in the table (document 01, "Finding a term").
+#![tactic(auto)]
+
 ghost use Rattle.std.specs.Prelude.{◌≡◌, ◌+◌, ◌≤◌, ◌<◌, length};
 ghost use Rattle.basics.specs.Lists.{same};
 ghost use Rattle.terms.specs.Terms.{max_term, folded, fnv1a};
@@ -6,7 +8,7 @@ ghost use Rattle.blocks.specs.Fields.{max_word, block_size, place, name_of};
 ghost use Rattle.lookup.specs.Lookup.{slots, search, enter, first_entry, length_behind, first_hit, Entries, Lengths};
 
 // What a search finds: the head's block, the empty slot where the term would go, or damage.
-#[derive(Drop)]
+#[derive(Clone, Copy)]
 pub enum Found {
     At(u32),
     Unknown(u32),

@@ -1,16 +1,18 @@
 // Double-VByte with threshold 4 (document 01, "Coding a posting"): a posting's gap and count as one or two values, each seven bits at a time,
 // lowest first.
+#![tactic(auto)]
+
 ghost use Rattle.std.specs.Prelude.{◌≡◌, ◌+◌, ◌-◌, ◌≤◌, ◌<◌, ◌^◌, length, drop};
 ghost use Rattle.std.proofs.lemmas.List.Edits.{sets};
 ghost use Rattle.postings.specs.Coding.{vbyte, code, code_length, value, at_most, decoded};
 ghost use Rattle.postings.specs.Claims.{RoundTrips};
 
 // The distance of a report from the last one in the chain.
-#[derive(Drop)]
+#[derive(Clone, Copy)]
 pub struct DGap(pub u32);
 
 // The distance of a block's first report from the first one of the block before.
-#[derive(Drop)]
+#[derive(Clone, Copy)]
 pub struct BGap(pub u32);
 
 impl DGap {
@@ -32,14 +34,14 @@ impl BGap {
 }
 
 // What stands at the front of some bytes: a value and the bytes it takes.
-#[derive(Drop)]
+#[derive(Clone, Copy)]
 pub enum Value {
     Number { value: u64, length: usize },
     NoValue,
 }
 
 // What decoding finds: a posting and the bytes it takes.
-#[derive(Drop)]
+#[derive(Clone, Copy)]
 pub enum Decoded {
     Posting { gap: u32, count: u32, length: usize },
     Rejected,

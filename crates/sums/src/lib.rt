@@ -1,5 +1,7 @@
 // Adding up the postings of a block's part: where they end, the number that their gaps lead to, and how many they are. Most codes of a long chain
 // have single bytes, and those are added up sixteen at a time.
+#![tactic(auto)]
+
 ghost use Rattle.std.specs.Prelude.{◌≡◌, true, false, ◌+◌, ◌≤◌, ◌<◌, length};
 ghost use Rattle.sums.specs.Adding.{sum_of, added_to, Small};
 ghost use Rattle.sums.specs.Rows.{gap_of, mark_of, gap_at, mark_at, lane, Lane, total, Rows};
@@ -7,7 +9,7 @@ ghost use Rattle.sums.specs.Rows.{gap_of, mark_of, gap_at, mark_at, lane, Lane, 
 use postings::Decoded;
 
 // The offset behind the last posting, the number that the gaps lead to, whatever reports there are, and how many postings they are.
-#[derive(Drop)]
+#[derive(Clone, Copy)]
 pub struct Sum {
     pub at: usize,
     pub number: u64,
@@ -81,7 +83,7 @@ fn mark_of(b: u8, q: u8, p: u8) -> u8
 }
 
 // The bytes at one place of the three rows together, for each of the sixteen places.
-#[derive(Drop)]
+#[derive(Clone, Copy)]
 pub struct Lanes {
     pub gaps: [u8; 16],
     pub marks: [u8; 16],
@@ -126,7 +128,7 @@ fn total_of(lanes: &[u8]) -> u32
 }
 
 // What the last 48 bytes of a whole block add up to, where they are codes of single bytes.
-#[derive(Drop)]
+#[derive(Clone, Copy)]
 pub struct RowsRead {
     pub told: bool,
     pub gaps: u32,

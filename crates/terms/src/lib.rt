@@ -1,10 +1,12 @@
 // Terms: which bytes they may have, folding (document 01, "Frames"), and the hash by which they are found ("Finding a term").
+#![tactic(auto)]
+
 ghost use Rattle.std.specs.Prelude.{◌≡◌, true, ◌≤◌, length};
 ghost use Rattle.std.proofs.lemmas.List.Edits.{sets};
 ghost use Rattle.terms.specs.Terms.{fold_byte, folded, is_term, mixed, fnv1a, judged_as};
 
 // Whether folded bytes are those of a term, and their FNV-1a.
-#[derive(Drop)]
+#[derive(Clone, Copy)]
 pub struct Judged {
     pub term: bool,
     pub hash: u32,

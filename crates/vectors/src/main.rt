@@ -1,5 +1,7 @@
 // Answers the questions on standard input, a line each, by the proved functions: hashes, codings, decodings, foldings, frames, chains and whole lists
 // of calls. The stored questions and the expected answers are written by the Rust reference (rust/reference), which shares no code with the functions under test.
+#![tactic(auto)]
+
 ghost use Rattle.std.specs.Prelude.{◌≡◌, false, ◌+◌, ◌<◌, ◌≤◌, length};
 ghost use Rattle.terms.specs.Terms.{max_term};
 ghost use Rattle.frames.specs.Frames.{count_bytes, fields, passes_end, bad_term};

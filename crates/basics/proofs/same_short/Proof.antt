@@ -13,28 +13,29 @@ use Rattle.basics.proofs.Lists.{same_drop, same_none}
 use Rattle.basics.proofs.same_short.Statement.{statement}
 use Rattle.basics.proofs.same_short.Tie as tie
 
-abbrev invariant-loop : tie.invariant-loop
+abbrev invariant-loop : tie.invariant-loop-i
 invariant-loop a b i₀ i = same a b ≡ same (drop i a) (drop i b)
 
-abbrev decreases-loop : tie.decreases-loop
+abbrev decreases-loop : tie.decreases-loop-i
 decreases-loop a b i₀ i = length a - i
 
-loop-holds : tie.Need-loop-init invariant-loop decreases-loop
+loop-holds : tie.Need-loop-i-init invariant-loop decreases-loop
 loop-holds c = refl
 
-shared-slice-read-if1 : tie.Need-shared-slice-read-if1 invariant-loop decreases-loop
+shared-slice-read-if1 : tie.Need-bounds-a-i invariant-loop decreases-loop
 shared-slice-read-if1 c = search rules
 
-shared-slice-read-if1-2 : tie.Need-shared-slice-read-if1-2 invariant-loop decreases-loop
+shared-slice-read-if1-2 : tie.Need-bounds-b-i invariant-loop decreases-loop
 shared-slice-read-if1-2 c = search rules
 
 -- the bytes in hand, and those behind them
-module _ (l : tie.In-loop invariant-loop decreases-loop) where
+module _ (l : tie.In-loop-i invariant-loop decreases-loop) where
   abbrev s : tie.Start invariant-loop decreases-loop
   s = l.before.before
 
+
   abbrev i : ℕ
-  i = l.before.loop.i
+  i = l.loop-i.i
 
   abbrev x : ℕ
   x = get_or s.args.a.now i 0
@@ -43,31 +44,31 @@ module _ (l : tie.In-loop invariant-loop decreases-loop) where
   y = get_or s.args.b.now i 0
 
   turn : same s.args.a.now s.args.b.now ≡ eqb x y && same (drop (i + 1) s.args.a.now) (drop (i + 1) s.args.b.now)
-  turn = l.before.loop.inv ∙ same_drop s.args.a.now s.args.b.now i l.loop-test.taken (omega arith)
+  turn = l.loop-i.invariant ∙ same_drop s.args.a.now s.args.b.now i l.loop-i-test.true (omega arith)
 
-returns : tie.Need-returns invariant-loop decreases-loop
+returns : tie.Need-returns-then-a-i invariant-loop decreases-loop
 returns c =
     let l = c.before.before.before in
-    sym (turn l ∙ rw (ne_eqb (x l) (y l) c.if1.true))
+    sym (turn l ∙ rw (ne_eqb (x l) (y l) c.if-a-i.true))
 
-add-i : tie.Need-overflow-add-i invariant-loop decreases-loop
+add-i : tie.Need-overflow_add-i invariant-loop decreases-loop
 add-i c = search rules
 
-loop-less : tie.Need-loop-smaller invariant-loop decreases-loop
+loop-less : tie.Need-loop-i-smaller invariant-loop decreases-loop
 loop-less c = omega arith
 
-loop-again : tie.Need-loop-preserved invariant-loop decreases-loop
+loop-again : tie.Need-loop-i-preserved invariant-loop decreases-loop
 loop-again c =
     let l = c.before.before.before in
-    turn l ∙ rw (eq-eqb (x l) (y l) c.if1.false)
+    turn l ∙ rw (eq-eqb (x l) (y l) c.if-a-i.false)
 
-returns-2 : tie.Need-returns-2 invariant-loop decreases-loop
+returns-2 : tie.Need-returns invariant-loop decreases-loop
 returns-2 c =
-    let s = c.before.before.args in
-    sym (c.before.loop.invariant ∙ same_none s.a.now s.b.now c.before.loop.i (omega arith) (omega arith))
+    let s = c.args in
+    sym (c.loop-i.invariant ∙ same_none s.a.now s.b.now c.loop-i.i (omega arith) (omega arith))
 
-pub same-short-spec : {M : Type 1} → statement M
-same-short-spec =
+pub same_short_spec : {M : Type 1} → statement M
+same_short_spec =
     tie.close
     (tie.spec
     invariant-loop

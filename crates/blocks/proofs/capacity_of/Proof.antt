@@ -6,16 +6,16 @@ use Rattle.blocks.proofs.capacity_of.Tie as tie
 use native.Mathlib.Omega.{arith}
 use Rattle.blocks.specs.Fields.{capacity}
 
-cast-result : tie.Need-overflow-cast-result
+cast-result : tie.Need-overflow_cast-result
 cast-result c = search rules
 
-returns : tie.Need-returns
+returns : tie.Need-returns-then-blocks-lt4294967295
 unfolding capacity
 returns c = omega arith
 
-returns-2 : tie.Need-returns-2
+returns-2 : tie.Need-returns-else-blocks-lt4294967295
 unfolding capacity
 returns-2 c = omega arith
 
-pub capacity-of-spec : {M : Type 1} → statement M
-capacity-of-spec = tie.close (tie.spec cast-result returns returns-2)
+pub capacity_of_spec : {M : Type 1} → statement M
+capacity_of_spec = tie.close (tie.spec cast-result returns returns-2)

@@ -15,50 +15,50 @@ use Rattle.blocks.specs.Fields.{block_size}
 use Rattle.blocks.specs.Writes.{padded}
 use Rattle.blocks.proofs.Writes.{length-padded, padded_null}
 
-abbrev invariant-loop : tie.invariant-loop
+abbrev invariant-loop : tie.invariant-loop-i
 invariant-loop arena₀ b from i₀ arena i =
     (i ≤ 64) × (length arena ≡ length arena₀) × (sets arena (from + i) (drop i (padded [])) ≡ sets arena₀ from (padded []))
 
-abbrev decreases-loop : tie.decreases-loop
+abbrev decreases-loop : tie.decreases-loop-i
 decreases-loop arena₀ b from i₀ arena i = 64 - i
 
-place-of-requires : tie.Need-place-of-requires invariant-loop decreases-loop
+place-of-requires : tie.Need-place_of-from-requires invariant-loop decreases-loop
 place-of-requires c κs = search rules
 
-loop-holds : tie.Need-loop-init invariant-loop decreases-loop
+loop-holds : tie.Need-loop-i-init invariant-loop decreases-loop
 loop-holds c = (omega arith, refl, rw add-zero)
 
-add-arena : tie.Need-overflow-add-arena invariant-loop decreases-loop
+add-arena : tie.Need-overflow_add-arena invariant-loop decreases-loop
 add-arena c = search rules
 
-slice-write-arena : tie.Need-slice-write-arena invariant-loop decreases-loop
+slice-write-arena : tie.Need-bounds-arena-from invariant-loop decreases-loop
 slice-write-arena c = search rules
 
-add-i : tie.Need-overflow-add-i invariant-loop decreases-loop
+add-i : tie.Need-overflow_add-i invariant-loop decreases-loop
 add-i c = search rules
 
-loop-less : tie.Need-loop-smaller invariant-loop decreases-loop
+loop-less : tie.Need-loop-i-smaller invariant-loop decreases-loop
 loop-less c = search rules
 
-loop-again : tie.Need-loop-preserved invariant-loop decreases-loop
+loop-again : tie.Need-loop-i-preserved invariant-loop decreases-loop
 loop-again c =
-    let l = c.before in
-    let i = l.loop.i in
-    let from = l.before.place_of.result in
+    let l = c in
+    let i = l.loop-i.i in
+    let from = l.place_of-from.result in
     let len : length (padded []) ≡ block_size = length-padded [] (omega arith) in (
       omega arith,
-      simp length-set l.loop.invariant.1,
-      sets_turn l.loop.arena from (padded []) i 0 0 (omega arith) (sym (padded_null i (omega arith))) ∙ l.loop.invariant.2,
+      simp length-set l.loop-i.invariant.1,
+      sets_turn l.loop-i.arena from (padded []) i 0 0 (omega arith) (sym (padded_null i (omega arith))) ∙ l.loop-i.invariant.2,
     )
 
-same_length : tie.Need-same-length invariant-loop decreases-loop
+same_length : tie.Need-shape_of-arena invariant-loop decreases-loop
 same_length c = search rules
 
 returns : tie.Need-returns invariant-loop decreases-loop
 returns c =
-    let l = c.before in
+    let l = c in
     let len : length (padded []) ≡ block_size = length-padded [] (omega arith) in
-    sym (sets_end l.loop.arena _ (padded []) l.loop.i (omega arith)) ∙ l.loop.invariant.2 ∙ rw l.before.place_of.ensures
+    sym (sets_end l.loop-i.arena _ (padded []) l.loop-i.i (omega arith)) ∙ l.loop-i.invariant.2 ∙ rw l.place_of-from.ensures
 
 pub clear_spec : {M : Type 1} → statement M
 clear_spec =

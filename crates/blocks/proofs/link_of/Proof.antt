@@ -7,16 +7,16 @@ use Rattle.blocks.specs.Fields.{link_of}
 use mathlib.Core.Path.{ap, ◌∙◌}
 use Rattle.basics.specs.Words.{word_at}
 
-place-of-requires : tie.Need-place-of-requires
+place-of-requires : tie.Need-place_of-requires
 place-of-requires c κs = search rules
 
-read-word-requires : tie.Need-read-word-requires
+read-word-requires : tie.Need-read_word-requires
 read-word-requires c κs = search rules
 
 returns : tie.Need-returns
 unfolding link_of
 returns c =
-    c.read_word.ensures ∙ ap (word_at c.before.before.before.args.arena.now) c.before.place_of.ensures
+    c.read_word.ensures ∙ ap (word_at c.args.arena.now) c.place_of.ensures
 
-pub link-of-spec : {M : Type 1} → statement M
-link-of-spec = tie.close (tie.spec place-of-requires read-word-requires returns)
+pub link_of_spec : {M : Type 1} → statement M
+link_of_spec = tie.close (tie.spec place-of-requires read-word-requires returns)

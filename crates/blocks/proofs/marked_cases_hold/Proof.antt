@@ -7,5 +7,5 @@ use Rattle.blocks.proofs.marked_cases_hold.Tie as tie
 returns : tie.Need-returns
 returns c = marked-right
 
-pub marked-cases-hold-spec : {M : Type 1} → statement M
-marked-cases-hold-spec = tie.close (tie.spec returns)
+pub marked_cases_hold_spec : {M : Type 1} → statement M
+marked_cases_hold_spec = tie.close (tie.spec returns)

@@ -7,32 +7,32 @@ use mathlib.Core.Path.{sym, ◌∙◌}
 use native.Mathlib.Omega.{arith}
 use Rattle.chains.proofs.Steps.{not-exhausted, step_empty, step_end, step_next, step_here}
 
-is-exhausted-requires : tie.Need-is-exhausted-requires
+is-exhausted-requires : tie.Need-is_exhausted-requires
 is-exhausted-requires c κs = search rules
 
-returns : tie.Need-returns
-returns c = sym (step_empty _ _ _ _ (sym c.before.before.before.is-exhausted.ensures ∙ c.before.before.if1.true) c.if2.true)
+returns : tie.Need-returns-then-c-eq0
+returns c = sym (step_empty _ _ _ _ (sym c.is_exhausted.ensures ∙ c.if-is_exhausted.true) c.if-c-eq0.true)
 
-returns-2 : tie.Need-returns-2
-returns-2 c = sym (step_end _ _ _ _ (sym c.before.before.before.before.before.is-exhausted.ensures ∙ c.before.before.before.before.if1.true) c.before.before.if2.false c.if3.true)
+returns-2 : tie.Need-returns-then-c
+returns-2 c = sym (step_end _ _ _ _ (sym c.is_exhausted.ensures ∙ c.if-is_exhausted.true) c.if-c-eq0.false c.if-c.true)
 
-next-block-requires : tie.Need-next-block-requires
+next-block-requires : tie.Need-next_block-requires
 next-block-requires c κs = search rules
 
-returns-3 : tie.Need-returns-3
-returns-3 c = c.next_block_lem.ensures ∙ sym (step_next _ _ _ _ (sym c.before.before.before.before.before.before.is-exhausted.ensures ∙ c.before.before.before.before.before.if1.true) c.before.before.before.if2.false c.before.if3.false)
+returns-3 : tie.Need-returns-then-is_exhausted
+returns-3 c = c.next_block.ensures ∙ sym (step_next _ _ _ _ (sym c.is_exhausted.ensures ∙ c.if-is_exhausted.true) c.if-c-eq0.false c.if-c.false)
 
-read-at-requires : tie.Need-read-at-requires
+read-at-requires : tie.Need-read_at-requires
 read-at-requires c κs =
-    let s = c.before.before.before.args in
-    let h = not-exhausted _ s.c (sym c.before.is-exhausted.ensures ∙ c.if1.false) in
-    (omega arith, c.before.before.before.requires.0.end_in, omega arith)
+    let s = c.args in
+    let h = not-exhausted _ s.c (sym c.is_exhausted.ensures ∙ c.if-is_exhausted.false) in
+    (omega arith, c.requires.0.end_in, omega arith)
 
-returns-4 : tie.Need-returns-4
-returns-4 c = c.read_at.ensures ∙ sym (step_here _ _ _ _ (sym c.before.before.is-exhausted.ensures ∙ c.before.if1.false))
+returns-4 : tie.Need-returns
+returns-4 c = c.read_at.ensures ∙ sym (step_here _ _ _ _ (sym c.is_exhausted.ensures ∙ c.if-is_exhausted.false))
 
-pub advance-spec : {M : Type 1} → statement M
-advance-spec =
+pub advance_spec : {M : Type 1} → statement M
+advance_spec =
     tie.close
     (tie.spec
     is-exhausted-requires

@@ -8,26 +8,26 @@ use Rattle.chains.specs.Chains.{bad_head}
 use Rattle.blocks.specs.Fields.{part_start}
 use native.Mathlib.Omega.{arith}
 
-returns : tie.Need-returns
+returns : tie.Need-returns-then-used-d
 unfolding bad_head
-returns c = let s = c.before.before.args in rw (le-leb s.used s.d.tail c.if1.true)
+returns c = let s = c.args in rw (le-leb s.used s.d.tail c.if-used-d.true)
 
-part-start-requires : tie.Need-part-start-requires
+part-start-requires : tie.Need-part_start-requires
 part-start-requires c κs = search rules
 
-returns-2 : tie.Need-returns-2
+returns-2 : tie.Need-returns-then-d-part_start
 unfolding bad_head
 returns-2 c =
-    let s = c.before.before.before.before.before.args in
+    let s = c.args in
     let p = part_start s.d s.h s.d.tail in
-    rw (lt-leb s.used s.d.tail c.before.before.before.if1.false, le-leb s.d.end p (omega arith))
+    rw (lt-leb s.used s.d.tail c.if-used-d.false, le-leb s.d.end p (omega arith))
 
-returns-3 : tie.Need-returns-3
+returns-3 : tie.Need-returns
 unfolding bad_head
 returns-3 c =
-    let s = c.before.before.before.before.before.before.args in
+    let s = c.args in
     let p = part_start s.d s.h s.d.tail in
-    rw (lt-leb s.used s.d.tail c.before.before.before.before.if1.false, lt-leb s.d.end p (omega arith))
+    rw (lt-leb s.used s.d.tail c.if-used-d.false, lt-leb s.d.end p (omega arith))
 
-pub is-bad-head-spec : {M : Type 1} → statement M
-is-bad-head-spec = tie.close (tie.spec returns part-start-requires returns-2 returns-3)
+pub is_bad_head_spec : {M : Type 1} → statement M
+is_bad_head_spec = tie.close (tie.spec returns part-start-requires returns-2 returns-3)

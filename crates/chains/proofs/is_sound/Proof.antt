@@ -19,153 +19,156 @@ use Rattle.chains.proofs.Counting.{before, Entering, start, not-begun, Read, blo
 use Rattle.chains.proofs.is_sound.Statement.{statement}
 use Rattle.chains.proofs.is_sound.Tie as tie
 
-abbrev invariant-loop : tie.invariant-loop
+abbrev invariant-loop : tie.invariant-loop-last
 invariant-loop arena used reports h d b₀ next₀ at₀ base₀ last₀ n₀ left₀ b next at base last n left = Entering arena used reports h d (before d b at last left) base n × (next ≡ link_of arena b)
 
-abbrev decreases-loop : tie.decreases-loop
+abbrev decreases-loop : tie.decreases-loop-last
 decreases-loop arena used reports h d b₀ next₀ at₀ base₀ last₀ n₀ left₀ b next at base last n left = left
 
 -- the length of the term is a byte
-short : (c : tie.After-head-of invariant-loop decreases-loop) → c.head_of.result.length < 256
-short c = head-short _ _ c.head_of.ensures (λ i. (c.before.shared-slice-known.given i).fits)
+short : (c : tie.After-head_of-d invariant-loop decreases-loop) → c.head_of-d.result.length < 256
+short c = head-short _ _ c.head_of-d.ensures (λ i. (c.shared_slice_known-1.given i).fits)
 
 -- the test of the head is that of the definition
-judged : (c : tie.After-is-bad-head invariant-loop decreases-loop)
-    → let s = c.before.before.before.args in bad_head (head_of s.arena.now s.h) s.used s.h ≡ c.is-bad-head.result
+judged : (c : tie.After-is_bad_head invariant-loop decreases-loop)
+    → let s = c.args in bad_head (head_of s.arena.now s.h) s.used s.h ≡ c.is_bad_head.result
 judged c =
-    let s = c.before.before.before.args in
-    sym (c.is-bad-head.ensures ∙ ap (λ (d : Head). bad_head d s.used s.h) c.before.head_of.ensures)
+    let s = c.args in
+    sym (c.is_bad_head.ensures ∙ ap (λ (d : Head). bad_head d s.used s.h) c.head_of-d.ensures)
 
-head-of-requires : tie.Need-head-of-requires invariant-loop decreases-loop
+head-of-requires : tie.Need-head_of-d-requires invariant-loop decreases-loop
 head-of-requires c κs = omega arith
 
-is-bad-head-requires : tie.Need-is-bad-head-requires invariant-loop decreases-loop
+is-bad-head-requires : tie.Need-is_bad_head-requires invariant-loop decreases-loop
 is-bad-head-requires c κs = short c
 
-returns : tie.Need-returns invariant-loop decreases-loop
+returns : tie.Need-returns-then-is_bad_head invariant-loop decreases-loop
 unfolding is_whole
-returns c = sym (ap is_whole (chain_bad _ _ _ _ (judged c.before ∙ c.if1.true)))
+returns c = sym (ap is_whole (chain_bad _ _ _ _ (judged c.before ∙ c.if-is_bad_head.true)))
 
-link-of-requires : tie.Need-link-of-requires invariant-loop decreases-loop
+link-of-requires : tie.Need-link_of-next-requires invariant-loop decreases-loop
 link-of-requires c κs = omega arith
 
-add_at : tie.Need-overflow-add-at invariant-loop decreases-loop
+add_at : tie.Need-overflow_add-at invariant-loop decreases-loop
 add_at c = omega (arith, short c.before.before.before.before)
 
-sub-left : tie.Need-overflow-sub-left invariant-loop decreases-loop
+sub-left : tie.Need-overflow_sub-left invariant-loop decreases-loop
 sub-left c = omega arith
 
-loop-holds : tie.Need-loop-init invariant-loop decreases-loop
+loop-holds : tie.Need-loop-last-init invariant-loop decreases-loop
 loop-holds c =
-    let e = c.before.before in
-    let s = e.before.before.before.before in
-    (rw e.before.before.head_of.ensures (start _ _ _ _ s.requires.0 s.requires.1 (judged e.before ∙ e.if1.false)), c.before.link-of.ensures)
+    let e = c in
+    let s = e in
+    (rw e.head_of-d.ensures (start _ _ _ _ s.requires.0 s.requires.1 (judged e.before.before.before ∙ e.if-is_bad_head.false)), c.link_of-next.ensures)
 
-link-ahead-requires : tie.Need-link-ahead-requires invariant-loop decreases-loop
+link-ahead-requires : tie.Need-link_ahead-after-requires invariant-loop decreases-loop
 link-ahead-requires c κs = omega arith
 
-end-in-requires : tie.Need-end-in-requires invariant-loop decreases-loop
+end-in-requires : tie.Need-end_in-requires invariant-loop decreases-loop
 end-in-requires c κs = search rules
 
 -- a turn
-module _ (l : tie.At-loop invariant-loop decreases-loop) where
+module _ (l : tie.At-loop-last invariant-loop decreases-loop) where
   abbrev s : tie.Start invariant-loop decreases-loop
   s = l.before.before.before.before.before.before.before
 
+
   abbrev d : Head
-  d = l.before.before.before.before.before.head_of.result
+  d = l.head_of-d.result
 
   abbrev k : Cursor
-  k = before d l.loop.b l.loop.at l.loop.last l.loop.left
+  k = before d l.loop-last.b l.loop-last.at l.loop-last.last l.loop-last.left
 
-  inside : place l.loop.b + 64 ≤ length s.args.arena.now
-  inside = let f = l.loop.inv.0.follows in omega (arith, f.inside, f.in_use)
+  inside : place l.loop-last.b + 64 ≤ length s.args.arena.now
+  inside = let f = l.loop-last.invariant.0.follows in omega (arith, f.inside, f.in_use)
 
-is-end : (c : tie.After-end-in invariant-loop decreases-loop) → c.end_in.result ≡ part_end (k c.before.before) c.before.before.loop.b
+is-end : (c : tie.After-end_in invariant-loop decreases-loop) → c.end_in.result ≡ part_end (k c.before.before) c.loop-last.b
 unfolding part_end
 is-end c = c.end_in.ensures
 
-read-part-requires : tie.Need-read-part-requires invariant-loop decreases-loop
+read-part-requires : tie.Need-read_part-r-requires invariant-loop decreases-loop
 read-part-requires c κs =
     let l = c.before.before in
-    let i = l.loop.invariant.0 in
-    let e = part_end_le (k l) l.loop.b i.follows.end_in in
+    let i = l.loop-last.invariant.0 in
+    let e = part_end_le (k l) l.loop-last.b i.follows.end_in in
     (omega (arith, inside l, is-end c, e), i.low, omega (arith, is-end c, e))
 
-returns-2 : tie.Need-returns-2 invariant-loop decreases-loop
-returns-2 c = let q = c.before.before in sym (not-begun q.before.before.before.loop.invariant.0 (is-end q.before) q.read-part.ensures c.if2.true)
+returns-2 : tie.Need-returns-then-r-last invariant-loop decreases-loop
+returns-2 c = let q = c in sym (not-begun q.loop-last.invariant.0 (is-end q.before.before.before) q.read_part-r.ensures c.if-r-last.true)
 
 -- a block was read
-module _ (c : tie.Else2 invariant-loop decreases-loop) where
-  abbrev q : tie.After-read-part invariant-loop decreases-loop
+module _ (c : tie.Else-r-last invariant-loop decreases-loop) where
+  abbrev q : tie.After-read_part-r invariant-loop decreases-loop
   q = c.before.before
 
-  abbrev l : tie.At-loop invariant-loop decreases-loop
+
+  abbrev l : tie.At-loop-last invariant-loop decreases-loop
   l = q.before.before.before
 
-  read : Read (s l).args.arena.now (s l).args.used (s l).args.reports (s l).args.h (d l) l.loop.b l.loop.left l.loop.n q.read-part.result
-  read = block_read l.loop.inv.0 (is-end q.before) q.read-part.ensures c.if2.false
 
-add-n : tie.Need-overflow-add-n invariant-loop decreases-loop
+  read : Read (s l).args.arena.now (s l).args.used (s l).args.reports (s l).args.h (d l) l.loop-last.b l.loop-last.left l.loop-last.n q.read_part-r.result
+  read = block_read l.loop-last.invariant.0 (is-end q.before) q.read_part-r.ensures c.if-r-last.false
+
+add-n : tie.Need-overflow_add-n invariant-loop decreases-loop
 add-n c = let w = (read c.before.before).counted in omega (arith, w.few, w.within)
 
-add-n-2 : tie.Need-overflow-add-n-2 invariant-loop decreases-loop
+add-n-2 : tie.Need-overflow_add-n-in-loop-last invariant-loop decreases-loop
 add-n-2 c = let w = (read c.before.before).counted in omega (arith, w.few, w.within)
 
-returns-3 : tie.Need-returns-3 invariant-loop decreases-loop
-returns-3 c = let t = c.before.before.before in sym (tail_broken (read t.before.before.before.before) t.if3.true c.if4.true)
+returns-3 : tie.Need-returns-then-p-d invariant-loop decreases-loop
+returns-3 c = let t = c in sym (tail_broken (read t.before.before.before.before.before.before.before) t.if-b-d.true c.if-p-d.true)
 
-returns-4 : tie.Need-returns-4 invariant-loop decreases-loop
+returns-4 : tie.Need-returns-then-n-d invariant-loop decreases-loop
 returns-4 c =
-    let e = c.before.before.before in
-    let t = e.before.before.before in
-    sym (tail-ended (read t.before.before.before.before) t.if3.true e.if4.false ∙ rw (eq-eqb _ _ c.before.if5.true))
+    let e = c in
+    let t = e in
+    sym (tail-ended (read t.before.before.before.before.before.before.before.before.before.before) t.if-b-d.true e.if-p-d.false ∙ rw (eq-eqb _ _ c.if-n-d.true))
 
-returns-5 : tie.Need-returns-5 invariant-loop decreases-loop
+returns-5 : tie.Need-returns-else-n-d invariant-loop decreases-loop
 returns-5 c =
-    let e = c.before.before in
-    let t = e.before.before.before in
-    sym (tail-ended (read t.before.before.before.before) t.if3.true e.if4.false ∙ rw (ne_eqb _ _ c.if5.false))
+    let e = c in
+    let t = e in
+    sym (tail-ended (read t.before.before.before.before.before.before.before.before.before) t.if-b-d.true e.if-p-d.false ∙ rw (ne_eqb _ _ c.if-n-d.false))
 
-returns-6 : tie.Need-returns-6 invariant-loop decreases-loop
-returns-6 c = let t = c.before in sym (none_left (read t.before.before.before.before) t.if3.false c.if6.true)
+returns-6 : tie.Need-returns-then-left-eq0 invariant-loop decreases-loop
+returns-6 c = let t = c in sym (none_left (read t.before.before.before.before.before) t.if-b-d.false c.if-left-eq0.true)
 
-ends-at-requires : tie.Need-ends-at-requires invariant-loop decreases-loop
+ends-at-requires : tie.Need-ends_at-requires invariant-loop decreases-loop
 ends-at-requires c κs = inside (l c.before.before.before.before.before)
 
-returns-7 : tie.Need-returns-7 invariant-loop decreases-loop
+returns-7 : tie.Need-returns-then-not-ends_at invariant-loop decreases-loop
 returns-7 c =
-    let t = c.before.before.before in
-    sym (part_broken (read t.before.before.before.before) t.if3.false (sym c.before.ends_at.ensures ∙ not-true _ c.if7.true))
+    let t = c in
+    sym (part_broken (read t.before.before.before.before.before.before.before) t.if-b-d.false (sym c.ends_at.ensures ∙ not-true _ c.if-not-ends_at.true-raw))
 
 -- behind it comes another
-ends : (c : tie.Else7 invariant-loop decreases-loop) → let q = c.before.before.before.before.before.before.before.before.before in
-    leb 64 q.read-part.result.rest.at || eqb (get_or (s q.before.before.before).args.arena.now (place q.before.before.before.loop.b + q.read-part.result.rest.at) 0) 0 ≡ true
-ends c = sym c.before.ends_at.ensures ∙ not-false _ c.if7.false
+ends : (c : tie.Else-not-ends_at invariant-loop decreases-loop) → let q = c in
+    leb 64 q.read_part-r.result.rest.at || eqb (get_or (s q.before.before.before).args.arena.now (place q.loop-last.b + q.read_part-r.result.rest.at) 0) 0 ≡ true
+ends c = sym c.ends_at.ensures ∙ not-false _ c.if-not-ends_at.false-raw
 
-returns-8 : tie.Need-returns-8 invariant-loop decreases-loop
+returns-8 : tie.Need-returns-then-used-b invariant-loop decreases-loop
 returns-8 c =
-    let t = c.before.before.before.before in
-    let w = t.before.before.before.before in
-    sym (unlinked (read w) t.if3.false (ends c.before) (l w).loop.invariant.1 c.if8.true)
+    let t = c in
+    let w = t.before.before.before.before.before.before.before.before in
+    sym (unlinked (read w) t.if-b-d.false (ends c.before) (l w).loop-last.invariant.1 c.if-used-b.true)
 
-sub-left-2 : tie.Need-overflow-sub-left-2 invariant-loop decreases-loop
-sub-left-2 c = omega (arith, c.before.before.before.if6.false)
+sub-left-2 : tie.Need-overflow_sub-left-in-loop-last invariant-loop decreases-loop
+sub-left-2 c = omega (arith, c.if-left-eq0.false)
 
-loop-less : tie.Need-loop-smaller invariant-loop decreases-loop
-loop-less c = omega (arith, c.before.before.before.if6.false)
+loop-less : tie.Need-loop-last-smaller invariant-loop decreases-loop
+loop-less c = omega (arith, c.if-left-eq0.false)
 
-loop-again : tie.Need-loop-preserved invariant-loop decreases-loop
+loop-again : tie.Need-loop-last-preserved invariant-loop decreases-loop
 loop-again c =
-    let t = c.before.before.before.before in
-    let w = t.before.before.before.before in
-    let next = (l w).loop.next in (
-      next_entering (read w) t.if3.false (ends c.before) (l w).loop.invariant.1 c.before.before.before.if6.false c.if8.false,
-      (q w).before.before.link-ahead.ensures ∙ rw (lt-ltb next (s (l w)).args.used c.if8.false),
+    let t = c in
+    let w = t.before.before.before.before.before.before.before.before in
+    let next = (l w).loop-last.next in (
+      next_entering (read w) t.if-b-d.false (ends c.before) (l w).loop-last.invariant.1 c.if-left-eq0.false c.if-used-b.false,
+      (q w).link_ahead-after.ensures ∙ rw (lt-ltb next (s (l w)).args.used c.if-used-b.false),
     )
 
-pub is-sound-spec : {M : Type 1} → statement M
-is-sound-spec =
+pub is_sound_spec : {M : Type 1} → statement M
+is_sound_spec =
     tie.close
     (tie.spec
     invariant-loop

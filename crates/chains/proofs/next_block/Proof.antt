@@ -8,32 +8,32 @@ use native.Mathlib.Omega.{arith}
 use Rattle.chains.specs.Chains.{entered}
 use Rattle.chains.proofs.Steps.{part_end_ge, next-none, next_out, next-at}
 
-returns : tie.Need-returns
-returns c = sym (next-none _ _ _ _ c.if1.true)
+returns : tie.Need-returns-then-c-eq0
+returns c = sym (next-none _ _ _ _ c.if-c-eq0.true)
 
-link-of-requires : tie.Need-link-of-requires
+link-of-requires : tie.Need-link_of-b-requires
 link-of-requires c κs = search rules
 
-returns-2 : tie.Need-returns-2
+returns-2 : tie.Need-returns-then-used-b
 returns-2 c = sym (next_out _ _ _ _ (omega arith))
 
-sub-t7 : tie.Need-overflow-sub-t7
+sub-t7 : tie.Need-overflow_sub-c
 sub-t7 c = search rules
 
-read-at-requires : tie.Need-read-at-requires
+read-at-requires : tie.Need-read_at-requires
 unfolding entered
 read-at-requires c κs =
-    let s = c.before.before.before.before.before.before in
-    let d = c.before.before.link-of.result in
+    let s = c in
+    let d = c.link_of-b.result in
     (omega arith, s.requires.0.end_in, part_end_ge (entered s.args.c d) d 4 s.requires.1 (omega arith))
 
-returns-3 : tie.Need-returns-3
+returns-3 : tie.Need-returns
 unfolding entered
 returns-3 c =
-    let s = c.before.before.before.before.before.before.before.args in
-    let k = c.before.before.before.link-of in
-    rw (next-at s.arena.now s.used s.reports s.c k.result k.ensures c.before.before.before.before.if1.false c.before.before.if2.false) c.read_at.ensures
+    let s = c.args in
+    let k = c.link_of-b in
+    rw (next-at s.arena.now s.used s.reports s.c k.result k.ensures c.if-c-eq0.false c.if-used-b.false) c.read_at.ensures
 
-pub next-block-spec : {M : Type 1} → statement M
-next-block-spec =
+pub next_block_spec : {M : Type 1} → statement M
+next_block_spec =
     tie.close (tie.spec returns link-of-requires returns-2 sub-t7 read-at-requires returns-3)

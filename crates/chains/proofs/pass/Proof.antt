@@ -20,102 +20,106 @@ use Rattle.chains.proofs.pass.Tie as tie
 abbrev state : ℕ → ℕ → ℕ → Passed
 state at number postings = record { at = at; number = number; postings = postings }
 
-abbrev invariant-loop : tie.invariant-loop
+abbrev invariant-loop : tie.invariant-loop-p
 invariant-loop part reports at number to p₀ n₀ postings₀ p n postings = (n ≤ reports) × (postings ≤ n) × Going part reports to (state at number 0) (state p n postings)
 
-abbrev decreases-loop : tie.decreases-loop
+abbrev decreases-loop : tie.decreases-loop-p
 decreases-loop part reports at number to p₀ n₀ postings₀ p n postings = length part - p
 
-loop-holds : tie.Need-loop-init invariant-loop decreases-loop
-loop-holds c = let r = c.before.args in (c.before.requires, omega arith, going_start r.part.now r.reports r.to (state r.at r.number 0))
+loop-holds : tie.Need-loop-p-init invariant-loop decreases-loop
+loop-holds c = let r = c.args in (c.requires, omega arith, going_start r.part.now r.reports r.to (state r.at r.number 0))
 
-decode-at-requires : tie.Need-decode-at-requires invariant-loop decreases-loop
-decode-at-requires c κs = c.before.loop-test.true
+decode-at-requires : tie.Need-decode_at-requires invariant-loop decreases-loop
+decode-at-requires c κs = c.loop-p-test.true
 
-enum_told : tie.Need-enum-told invariant-loop decreases-loop
+enum_told : tie.Need-enum_told-1 invariant-loop decreases-loop
 enum_told c = search rules
 
 -- a turn
-module _ (l : tie.At-loop invariant-loop decreases-loop) where
+module _ (l : tie.At-loop-p invariant-loop decreases-loop) where
   abbrev r : tie.Start invariant-loop decreases-loop
   r = l.before.before
+
 
   abbrev part : List ℕ
   part = r.args.part.now
 
   abbrev q : Passed
-  q = state l.loop.p l.loop.n l.loop.postings
+  q = state l.loop-p.p l.loop-p.n l.loop-p.postings
 
   ends : Stopped part r.args.reports r.args.to q → q ≡ passed part r.args.reports r.args.at r.args.number r.args.to
   unfolding passed
-  ends s = going_ends part r.args.reports r.args.to l.loop.inv.2 s
+  ends s = going_ends part r.args.reports r.args.to l.loop-p.invariant.2 s
 
 -- what stands there
-read : (c : tie.After-decode-at invariant-loop decreases-loop) (x : Decoded) → c.decode-at.result ≡ x
-    → let l = c.before.before.before in decoded (drop l.loop.p (part l)) ≡ x
-read c x e = sym c.decode-at.ensures ∙ e
+read : (c : tie.After-decode_at invariant-loop decreases-loop) (x : Decoded) → c.decode_at.result ≡ x
+    → let l = c.before.before.before in decoded (drop l.loop-p.p (part l)) ≡ x
+read c x e = sym c.decode_at.ensures ∙ e
 
-returns : tie.Need-returns invariant-loop decreases-loop
-returns c = let d = c.before.before in ends d.before.before.before (no_posting (read d code.Rejected c.enum_told.given.1))
+returns : tie.Need-returns-in-Rejected invariant-loop decreases-loop
+returns c = let d = c.before in ends d.before.before.before (no_posting (read d code.Rejected c.in-Rejected.is))
 
-enum-known-gap : tie.Need-enum-known-gap invariant-loop decreases-loop
+enum-known-gap : tie.Need-enum_known-gap invariant-loop decreases-loop
 enum-known-gap c = search rules
 
-sub-if2 : tie.Need-overflow-sub-if2 invariant-loop decreases-loop
+sub-if2 : tie.Need-overflow_sub-reports invariant-loop decreases-loop
 sub-if2 c = search rules
 
-returns-2 : tie.Need-returns-2 invariant-loop decreases-loop
+returns-2 : tie.Need-returns-then-reports-n invariant-loop decreases-loop
 returns-2 c =
-    let v = c.before.before in
+    let v = c in
     let d = v.before.before in
     let l = d.before.before.before in
-    ends l (over (read d _ v.gap.given.1) (omega (arith, c.if2.true, l.loop.invariant.0)))
+    ends l (over (read d _ v.in-Posting.is) (omega (arith, c.if-reports-n.true, l.loop-p.invariant.0)))
 
 -- a posting further
-module _ (c : tie.Else2 invariant-loop decreases-loop) where
-  abbrev v : tie.After-gap invariant-loop decreases-loop
-  v = c.before.before
+module _ (c : tie.Else-reports-n invariant-loop decreases-loop) where
+  abbrev v : tie.In-Posting invariant-loop decreases-loop
+  v = c.before
 
-  abbrev d : tie.After-decode-at invariant-loop decreases-loop
-  d = v.before.before
 
-  abbrev l : tie.At-loop invariant-loop decreases-loop
+  abbrev d : tie.After-decode_at invariant-loop decreases-loop
+  d = v.before
+
+
+  abbrev l : tie.At-loop-p invariant-loop decreases-loop
   l = d.before.before.before
+
 
   abbrev goes : Goes (part l) (r l).args.reports (r l).args.to (q l)
   goes = record {
-    g = v.gap.given.0.0;
-    f = v.gap.given.0.1.0;
-    l = v.gap.given.0.1.1.0;
-    before_end = d.before.before.loop-test.taken;
-    below = ltb-true _ _ d.before.if1.taken;
-    found = read d _ v.gap.given.1;
-    in_reports_lem = omega (arith, c.if2.false, l.loop.inv.0);
+    g = v.in-Posting.gap;
+    f = v.in-Posting.count;
+    l = v.in-Posting.length;
+    before_end = d.loop-p-test.true;
+    below = ltb-true _ _ d.if-n-to.true-raw;
+    found = read d _ v.in-Posting.is;
+    in_reports_lem = omega (arith, c.if-reports-n.false, l.loop-p.invariant.0);
   }
 
-  fits : (0 < goes.g) × (0 < goes.l) × (l.loop.p + goes.l ≤ length (part l))
+  fits : (0 < goes.g) × (0 < goes.l) × (l.loop-p.p + goes.l ≤ length (part l))
   fits = let w = goes_within _ _ _ goes in ((decoded_held _ _ _ _ goes.found).gap.0, w.0, w.1)
 
-add-n : tie.Need-overflow-add-n invariant-loop decreases-loop
+add-n : tie.Need-overflow_add-n invariant-loop decreases-loop
 add-n c = omega (arith, (goes c).in_reports_lem)
 
-add-p : tie.Need-overflow-add-p invariant-loop decreases-loop
+add-p : tie.Need-overflow_add-p invariant-loop decreases-loop
 add-p c = omega (arith, (fits c).2)
 
-add-postings : tie.Need-overflow-add-postings invariant-loop decreases-loop
-add-postings c = omega (arith, (fits c).0, (goes c).in_reports_lem, (l c).loop.invariant.1)
+add-postings : tie.Need-overflow_add-postings invariant-loop decreases-loop
+add-postings c = omega (arith, (fits c).0, (goes c).in_reports_lem, (l c).loop-p.invariant.1)
 
-loop-less : tie.Need-loop-smaller invariant-loop decreases-loop
+loop-less : tie.Need-loop-p-smaller invariant-loop decreases-loop
 loop-less c = omega (arith, (fits c).1, (fits c).2)
 
-loop-again : tie.Need-loop-preserved invariant-loop decreases-loop
-loop-again c = ((goes c).in_reports_lem, omega (arith, (fits c).0, (l c).loop.invariant.1), going_on _ _ _ (l c).loop.invariant.2 (goes c))
+loop-again : tie.Need-loop-p-preserved invariant-loop decreases-loop
+loop-again c = ((goes c).in_reports_lem, omega (arith, (fits c).0, (l c).loop-p.invariant.1), going_on _ _ _ (l c).loop-p.invariant.2 (goes c))
 
-returns-3 : tie.Need-returns-3 invariant-loop decreases-loop
-returns-3 c = ends c.before.before (arrived (ltb-false _ _ c.if1.false))
+returns-3 : tie.Need-returns-else-n-to invariant-loop decreases-loop
+returns-3 c = ends c.before.before (arrived (ltb-false _ _ c.if-n-to.false-raw))
 
-returns-4 : tie.Need-returns-4 invariant-loop decreases-loop
-returns-4 c = ends c.before (at_end c.loop-test.false)
+returns-4 : tie.Need-returns-after-loop-p invariant-loop decreases-loop
+returns-4 c = ends c.before (at_end c.loop-p-test.false)
 
 pub pass_spec : {M : Type 1} → statement M
 pass_spec =

@@ -8,24 +8,24 @@ use Rattle.chains.proofs.Added.{as_passed, added_passed}
 use Rattle.chains.proofs.pass_all.Statement.{statement}
 use Rattle.chains.proofs.pass_all.Tie as tie
 
-add-all-requires : tie.Need-add-all-requires
+add-all-requires : tie.Need-add_all-all-requires
 add-all-requires c κs = search rules
 
 pass-requires : tie.Need-pass-requires
 pass-requires c κs = search rules
 
-returns : tie.Need-returns
+returns : tie.Need-returns-then-reports-all
 returns c = search rules
 
-cast-t8 : tie.Need-overflow-cast-t8
+cast-t8 : tie.Need-overflow_cast-result
 cast-t8 c = search rules
 
-returns-2 : tie.Need-returns-2
+returns-2 : tie.Need-returns
 returns-2 c =
-    let o = c.before.before.before in
-    let a = o.before.before.args in
-    ap as_passed o.add-all.ensures
-    ∙ added_passed a.part.now a.reports a.at a.number (omega (arith, c.before.if1.false, ap (λ (x : Sum). x.number) o.add-all.ensures))
+    let o = c in
+    let a = o.args in
+    ap as_passed o.add_all-all.ensures
+    ∙ added_passed a.part.now a.reports a.at a.number (omega (arith, c.if-reports-all.false, ap (λ (x : Sum). x.number) o.add_all-all.ensures))
 
-pub pass-all-spec : {M : Type 1} → statement M
-pass-all-spec = tie.close (tie.spec add-all-requires pass-requires returns cast-t8 returns-2)
+pub pass_all_spec : {M : Type 1} → statement M
+pass_all_spec = tie.close (tie.spec add-all-requires pass-requires returns cast-t8 returns-2)

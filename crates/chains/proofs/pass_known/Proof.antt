@@ -24,124 +24,127 @@ abbrev state : ℕ → ℕ → ℕ → Passed
 state at number postings = record { at = at; number = number; postings = postings }
 
 -- for all reports that bound the part
-abbrev invariant-loop : tie.invariant-loop
+abbrev invariant-loop : tie.invariant-loop-p
 invariant-loop part at number to p₀ n₀ postings₀ p n postings =
     (postings ≤ n)
     × Bounded part max_word p n
     × ((reports : ℕ) → Bounded part reports at number → Bounded part reports p n × Going part reports to (state at number 0) (state p n postings))
 
-abbrev decreases-loop : tie.decreases-loop
+abbrev decreases-loop : tie.decreases-loop-p
 decreases-loop part at number to p₀ n₀ postings₀ p n postings = length part - p
 
-loop-holds : tie.Need-loop-init invariant-loop decreases-loop
+loop-holds : tie.Need-loop-p-init invariant-loop decreases-loop
 loop-holds c =
-    let r = c.before.args in
-    (omega arith, c.before.requires, λ reports b. (b, going_start r.part.now reports r.to (state r.at r.number 0)))
+    let r = c.args in
+    (omega arith, c.requires, λ reports b. (b, going_start r.part.now reports r.to (state r.at r.number 0)))
 
-decode-at-requires : tie.Need-decode-at-requires invariant-loop decreases-loop
-decode-at-requires c κs = c.before.loop-test.true
+decode-at-requires : tie.Need-decode_at-requires invariant-loop decreases-loop
+decode-at-requires c κs = c.loop-p-test.true
 
-enum_told : tie.Need-enum-told invariant-loop decreases-loop
+enum_told : tie.Need-enum_told-1 invariant-loop decreases-loop
 enum_told c = search rules
 
-enum-known-gap : tie.Need-enum-known-gap invariant-loop decreases-loop
+enum-known-gap : tie.Need-enum_known-gap invariant-loop decreases-loop
 enum-known-gap c = search rules
 
 -- a turn
-module _ (l : tie.At-loop invariant-loop decreases-loop) where
+module _ (l : tie.At-loop-p invariant-loop decreases-loop) where
   abbrev r : tie.Start invariant-loop decreases-loop
   r = l.before.before
+
 
   abbrev part : List ℕ
   part = r.args.part.now
 
   abbrev q : Passed
-  q = state l.loop.p l.loop.n l.loop.postings
+  q = state l.loop-p.p l.loop-p.n l.loop-p.postings
 
   ends : ((reports : ℕ) → Stopped part reports r.args.to q)
       → (reports : ℕ) → Bounded part reports r.args.at r.args.number → q ≡ passed part reports r.args.at r.args.number r.args.to
   unfolding passed
-  ends s reports b = going_ends part reports r.args.to (l.loop.inv.2 reports b).1 (s reports)
+  ends s reports b = going_ends part reports r.args.to (l.loop-p.invariant.2 reports b).1 (s reports)
 
 -- what stands there
-read : (c : tie.After-decode-at invariant-loop decreases-loop) (x : Decoded) → c.decode-at.result ≡ x
-    → let l = c.before.before.before in decoded (drop l.loop.p (part l)) ≡ x
-read c x e = sym c.decode-at.ensures ∙ e
+read : (c : tie.After-decode_at invariant-loop decreases-loop) (x : Decoded) → c.decode_at.result ≡ x
+    → let l = c.before.before.before in decoded (drop l.loop-p.p (part l)) ≡ x
+read c x e = sym c.decode_at.ensures ∙ e
 
 -- a posting further
-module _ (c : tie.After-gap invariant-loop decreases-loop) where
-  abbrev d : tie.After-decode-at invariant-loop decreases-loop
-  d = c.before.before
+module _ (c : tie.In-Posting invariant-loop decreases-loop) where
+  abbrev d : tie.After-decode_at invariant-loop decreases-loop
+  d = c.before
 
-  abbrev l : tie.At-loop invariant-loop decreases-loop
+
+  abbrev l : tie.At-loop-p invariant-loop decreases-loop
   l = d.before.before.before
 
+
   abbrev gap : ℕ
-  gap = c.gap.given.0.0
+  gap = c.in-Posting.gap
 
   abbrev bytes : ℕ
-  bytes = c.gap.given.0.1.1.0
+  bytes = c.in-Posting.length
 
-  found : decoded (drop l.loop.p (part l)) ≡ code.Posting gap c.gap.given.0.1.0 bytes
-  found = read d _ c.gap.given.1
+  found : decoded (drop l.loop-p.p (part l)) ≡ code.Posting gap c.in-Posting.count bytes
+  found = read d _ c.in-Posting.is
 
-  in_part : l.loop.p < length (part l)
-  in_part = d.before.before.loop-test.taken
+  in_part : l.loop-p.p < length (part l)
+  in_part = d.loop-p-test.true
 
-  next : (reports : ℕ) → Bounded (part l) reports l.loop.p l.loop.n → Bounded (part l) reports (l.loop.p + bytes) (l.loop.n + gap)
+  next : (reports : ℕ) → Bounded (part l) reports l.loop-p.p l.loop-p.n → Bounded (part l) reports (l.loop-p.p + bytes) (l.loop-p.n + gap)
   next reports b = bounded_on b in_part found
 
-  sizes : (0 < gap) × (0 < bytes) × (l.loop.p + bytes ≤ length (part l))
+  sizes : (0 < gap) × (0 < bytes) × (l.loop-p.p + bytes ≤ length (part l))
   sizes =
-      let w = decoded-within (drop l.loop.p (part l)) found in
+      let w = decoded-within (drop l.loop-p.p (part l)) found in
       ((decoded_held _ _ _ _ found).gap.0, w.0, omega (arith, in_part, simp length-drop at w.1))
 
-  fits : l.loop.n + gap ≤ max_word
-  fits = bounded_here (next max_word l.loop.inv.1)
+  fits : l.loop-p.n + gap ≤ max_word
+  fits = bounded_here (next max_word l.loop-p.invariant.1)
 
-  abbrev goes : (reports : ℕ) → Bounded (part l) reports l.loop.p l.loop.n → Goes (part l) reports (r l).args.to (q l)
+  abbrev goes : (reports : ℕ) → Bounded (part l) reports l.loop-p.p l.loop-p.n → Goes (part l) reports (r l).args.to (q l)
   goes reports b = record {
     g = gap;
-    f = c.gap.given.0.1.0;
+    f = c.in-Posting.count;
     l = bytes;
     before_end = in_part;
-    below = ltb-true _ _ d.before.if1.taken;
+    below = ltb-true _ _ d.if-n-to.true-raw;
     found = found;
     in_reports_lem = bounded_here (next reports b);
   }
 
-add-n : tie.Need-overflow-add-n invariant-loop decreases-loop
-add-n c = omega (arith, fits c.before)
+add-n : tie.Need-overflow_add-n invariant-loop decreases-loop
+add-n c = omega (arith, fits c)
 
-add-p : tie.Need-overflow-add-p invariant-loop decreases-loop
-add-p c = omega (arith, (sizes c.before).2)
+add-p : tie.Need-overflow_add-p invariant-loop decreases-loop
+add-p c = omega (arith, (sizes c).2)
 
-add-postings : tie.Need-overflow-add-postings invariant-loop decreases-loop
-add-postings c = omega (arith, (sizes c.before).0, fits c.before, (l c.before).loop.inv.0)
+add-postings : tie.Need-overflow_add-postings invariant-loop decreases-loop
+add-postings c = omega (arith, (sizes c).0, fits c, (l c).loop-p.invariant.0)
 
-loop-less : tie.Need-loop-smaller invariant-loop decreases-loop
-loop-less c = omega (arith, (sizes c.before).1, in_part c.before)
+loop-less : tie.Need-loop-p-smaller invariant-loop decreases-loop
+loop-less c = omega (arith, (sizes c).1, in_part c)
 
-loop-again : tie.Need-loop-preserved invariant-loop decreases-loop
+loop-again : tie.Need-loop-p-preserved invariant-loop decreases-loop
 loop-again c =
-    let e = c.before in
-    let i = (l e).loop.invariant in (
+    let e = c in
+    let i = (l e).loop-p.invariant in (
       omega (arith, (sizes e).0, i.0),
       next e max_word i.1,
       λ reports b. let j = i.2 reports b in (next e reports j.0, going_on _ _ _ j.1 (goes e reports j.0)),
     )
 
-returns : tie.Need-returns invariant-loop decreases-loop
-returns c = ends c.before.before (λ _. arrived (ltb-false _ _ c.if1.false))
+returns : tie.Need-returns-else-n-to invariant-loop decreases-loop
+returns c = ends c.before.before (λ _. arrived (ltb-false _ _ c.if-n-to.false-raw))
 
-returns-2 : tie.Need-returns-2 invariant-loop decreases-loop
-returns-2 c = ends c.before (λ _. at_end c.loop-test.false)
+returns-2 : tie.Need-returns-after-loop-p invariant-loop decreases-loop
+returns-2 c = ends c.before (λ _. at_end c.loop-p-test.false)
 
-returns-3 : tie.Need-returns-3 invariant-loop decreases-loop
-returns-3 c = let d = c.before.before in ends d.before.before.before (λ _. no_posting (read d code.Rejected c.enum_told.given.1))
+returns-3 : tie.Need-returns-in-Rejected invariant-loop decreases-loop
+returns-3 c = let d = c.before in ends d.before.before.before (λ _. no_posting (read d code.Rejected c.in-Rejected.is))
 
-pub pass-known-spec : {M : Type 1} → statement M
-pass-known-spec =
+pub pass_known_spec : {M : Type 1} → statement M
+pass_known_spec =
     tie.close
     (tie.spec
     invariant-loop

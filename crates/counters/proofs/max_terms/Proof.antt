@@ -7,12 +7,12 @@ use mathlib.Core.Path.{ap}
 use Prim.Native.Nat.{ℕ, ◌/◌}
 use Rattle.counters.specs.Counters.{max_terms}
 
-slots-of-requires : tie.Need-slots-of-requires
+slots-of-requires : tie.Need-slots_of-requires
 slots-of-requires c κs = search rules
 
 returns : tie.Need-returns
 unfolding max_terms
-returns c = ap (λ (t : ℕ). t / 2) c.slots-of.ensures
+returns c = ap (λ (t : ℕ). t / 2) c.slots_of.ensures
 
-pub max-terms-spec : {M : Type 1} → statement M
-max-terms-spec = tie.close (tie.spec slots-of-requires returns)
+pub max_terms_spec : {M : Type 1} → statement M
+max_terms_spec = tie.close (tie.spec slots-of-requires returns)

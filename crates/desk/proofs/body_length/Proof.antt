@@ -6,22 +6,22 @@ use Rattle.desk.proofs.body_length.Tie as tie
 use native.Mathlib.Omega.{arith}
 use Rattle.frames.specs.Frames.{body_length}
 
-byte-at-requires : tie.Need-byte-at-requires
+byte-at-requires : tie.Need-byte_at-requires
 byte-at-requires c κs = search rules
 
-mul-result : tie.Need-overflow-mul-result
+mul-result : tie.Need-overflow_mul-result
 mul-result c = search rules
 
-byte-at-requires-2 : tie.Need-byte-at-requires-2
+byte-at-requires-2 : tie.Need-byte_at-requires-2
 byte-at-requires-2 c κs = search rules
 
-add-result : tie.Need-overflow-add-result
+add-result : tie.Need-overflow_add-result
 add-result c = search rules
 
 returns : tie.Need-returns
 unfolding body_length
 returns c = (omega arith, omega arith)
 
-pub body-length-spec : {M : Type 1} → statement M
-body-length-spec =
+pub body_length_spec : {M : Type 1} → statement M
+body_length_spec =
     tie.close (tie.spec byte-at-requires mul-result byte-at-requires-2 add-result returns)

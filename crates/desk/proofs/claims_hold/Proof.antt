@@ -8,5 +8,5 @@ use Rattle.desk.proofs.claims_hold.Tie as tie
 returns : tie.Need-returns
 returns c = (last-refused, tells_ledger)
 
-pub claims-hold-spec : {M : Type 1} → statement M
-claims-hold-spec = tie.close (tie.spec returns)
+pub claims_hold_spec : {M : Type 1} → statement M
+claims_hold_spec = tie.close (tie.spec returns)

@@ -6,23 +6,23 @@ use Rattle.desk.proofs.frame_length.Tie as tie
 use mathlib.Core.Path.{sym, ◌∙◌}
 use Rattle.desk.specs.Desk.{frame_length}
 
-is-overlong-requires : tie.Need-is-overlong-requires
+is-overlong-requires : tie.Need-is_overlong-requires
 is-overlong-requires c κs = search rules
 
-returns : tie.Need-returns
+returns : tie.Need-returns-then-is_overlong
 unfolding frame_length
-returns c = rw (sym c.before.is-overlong.ensures ∙ c.if1.true)
+returns c = rw (sym c.is_overlong.ensures ∙ c.if-is_overlong.true)
 
-body-length-requires : tie.Need-body-length-requires
+body-length-requires : tie.Need-body_length-requires
 body-length-requires c κs = search rules
 
-add-result : tie.Need-overflow-add-result
+add-result : tie.Need-overflow_add-result
 add-result c = search rules
 
-returns-2 : tie.Need-returns-2
+returns-2 : tie.Need-returns
 unfolding frame_length
-returns-2 c = rw (c.body-length.ensures.0, sym c.before.before.is-overlong.ensures ∙ c.before.if1.false)
+returns-2 c = rw (c.body_length.ensures.0, sym c.is_overlong.ensures ∙ c.if-is_overlong.false)
 
-pub frame-length-spec : {M : Type 1} → statement M
-frame-length-spec =
+pub frame_length_spec : {M : Type 1} → statement M
+frame_length_spec =
     tie.close (tie.spec is-overlong-requires returns body-length-requires add-result returns-2)

@@ -5,12 +5,12 @@ use Rattle.desk.proofs.is_overlong.Statement.{statement}
 use Rattle.desk.proofs.is_overlong.Tie as tie
 use Rattle.desk.specs.Desk.{overlong}
 
-body-length-requires : tie.Need-body-length-requires
+body-length-requires : tie.Need-body_length-requires
 body-length-requires c κs = search rules
 
 returns : tie.Need-returns
 unfolding overlong
-returns c = rw c.body-length.ensures.0
+returns c = rw c.body_length.ensures.0
 
-pub is-overlong-spec : {M : Type 1} → statement M
-is-overlong-spec = tie.close (tie.spec body-length-requires returns)
+pub is_overlong_spec : {M : Type 1} → statement M
+is_overlong_spec = tie.close (tie.spec body-length-requires returns)

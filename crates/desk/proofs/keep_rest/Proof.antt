@@ -9,44 +9,44 @@ use mathlib.Core.Path.{refl}
 use lib.ListN.{length}
 use Rattle.desk.proofs.Moves.{Moved, moved-start, moved_more, moved_all}
 
-abbrev invariant-loop : tie.invariant-loop
+abbrev invariant-loop : tie.invariant-loop-i
 invariant-loop input₀ from to n i₀ input i = (inside : from + n ≤ length input₀) × Moved input₀ from n inside input i
 
-abbrev decreases-loop : tie.decreases-loop
+abbrev decreases-loop : tie.decreases-loop-i
 decreases-loop input₀ from to n i₀ input i = n - i
 
-sub-n : tie.Need-overflow-sub-n invariant-loop decreases-loop
+sub-n : tie.Need-overflow_sub-n invariant-loop decreases-loop
 sub-n c = search rules
 
-loop-holds : tie.Need-loop-init invariant-loop decreases-loop
+loop-holds : tie.Need-loop-i-init invariant-loop decreases-loop
 loop-holds c = (omega arith, moved-start _ _ _ _)
 
-add-input : tie.Need-overflow-add-input invariant-loop decreases-loop
+add-input : tie.Need-overflow_add-input invariant-loop decreases-loop
 add-input c = search rules
 
-slice-read-input : tie.Need-slice-read-input invariant-loop decreases-loop
-slice-read-input c = omega (arith, c.before.before.loop.invariant.1.long)
+slice-read-input : tie.Need-bounds-input-from invariant-loop decreases-loop
+slice-read-input c = omega (arith, c.loop-i.invariant.1.long)
 
-slice-write-input : tie.Need-slice-write-input invariant-loop decreases-loop
-slice-write-input c = omega (arith, c.before.before.loop.invariant.1.long)
+slice-write-input : tie.Need-bounds-input-i invariant-loop decreases-loop
+slice-write-input c = omega (arith, c.loop-i.invariant.1.long)
 
-add-i : tie.Need-overflow-add-i invariant-loop decreases-loop
+add-i : tie.Need-overflow_add-i invariant-loop decreases-loop
 add-i c = search rules
 
-loop-less : tie.Need-loop-smaller invariant-loop decreases-loop
+loop-less : tie.Need-loop-i-smaller invariant-loop decreases-loop
 loop-less c = search rules
 
-loop-again : tie.Need-loop-preserved invariant-loop decreases-loop
-loop-again c = let l = c.before.before.loop in (l.invariant.0, moved_more _ _ _ l.invariant.0 l.input l.i c.before.loop-test.true l.invariant.1)
+loop-again : tie.Need-loop-i-preserved invariant-loop decreases-loop
+loop-again c = let l = c.loop-i in (l.invariant.0, moved_more _ _ _ l.invariant.0 l.input l.i c.loop-i-test.true l.invariant.1)
 
-same_length : tie.Need-same-length invariant-loop decreases-loop
-same_length c = c.before.loop.invariant.1.long
+same_length : tie.Need-shape_of-input invariant-loop decreases-loop
+same_length c = c.loop-i.invariant.1.long
 
 returns : tie.Need-returns invariant-loop decreases-loop
-returns c = let l = c.before.loop in (refl, moved_all _ _ _ l.invariant.0 l.input l.i c.loop-test.false l.invariant.1)
+returns c = let l = c.loop-i in (refl, moved_all _ _ _ l.invariant.0 l.input l.i c.loop-i-test.false l.invariant.1)
 
-pub keep-rest-spec : {M : Type 1} → statement M
-keep-rest-spec =
+pub keep_rest_spec : {M : Type 1} → statement M
+keep_rest_spec =
     tie.close
     (tie.spec
     invariant-loop

@@ -8,34 +8,34 @@ use native.Mathlib.Omega.{arith}
 use Rattle.desk.specs.Text.{end_text}
 use Rattle.desk.proofs.Texts.{puts_then, puts_as}
 
-put-byte-requires : tie.Need-put-byte-requires
+put-byte-requires : tie.Need-put_byte-a-requires
 put-byte-requires c κs = search rules
 
-put-byte-requires-2 : tie.Need-put-byte-requires-2
+put-byte-requires-2 : tie.Need-put_byte-b-requires
 put-byte-requires-2 c κs = search rules
 
-put-byte-requires-3 : tie.Need-put-byte-requires-3
+put-byte-requires-3 : tie.Need-put_byte-requires
 put-byte-requires-3 c κs = search rules
 
-same_length : tie.Need-same-length
+same_length : tie.Need-shape_of-out-then-more
 same_length c = search rules
 
-returns : tie.Need-returns
+returns : tie.Need-returns-then-more
 unfolding end_text
-returns c = rw c.before.before.before.before.before.before.before.before.before.before.before.before.if1.true (puts_as (puts_then (puts_then c.before.before.before.before.before.before.before.before.before.before.put_byte.ensures c.before.before.before.before.before.before.put-byte2.ensures) c.before.before.put-byte3.ensures) refl (omega arith))
+returns c = rw c.if-more.true (puts_as (puts_then (puts_then c.put_byte-a.ensures c.put_byte-b.ensures) c.put_byte.ensures) refl (omega arith))
 
-put-byte-requires-4 : tie.Need-put-byte-requires-4
+put-byte-requires-4 : tie.Need-put_byte-requires-2
 put-byte-requires-4 c κs = search rules
 
-same-length-2 : tie.Need-same-length-2
+same-length-2 : tie.Need-shape_of-out
 same-length-2 c = search rules
 
-returns-2 : tie.Need-returns-2
+returns-2 : tie.Need-returns
 unfolding end_text
-returns-2 c = rw c.before.before.before.before.if1.false (puts_as c.before.before.put-byte4.ensures refl (omega arith))
+returns-2 c = rw c.if-more.false (puts_as c.put_byte-2.ensures refl (omega arith))
 
-pub put-end-spec : {M : Type 1} → statement M
-put-end-spec =
+pub put_end_spec : {M : Type 1} → statement M
+put_end_spec =
     tie.close
     (tie.spec
     put-byte-requires

@@ -8,27 +8,27 @@ use mathlib.Core.Path.{refl}
 use Rattle.desk.proofs.Texts.{puts_then, puts_as}
 use Rattle.desk.specs.Text.{pair_text}
 
-put-byte-requires : tie.Need-put-byte-requires
+put-byte-requires : tie.Need-put_byte-a-requires
 put-byte-requires c κs = search rules
 
-put-number-requires : tie.Need-put-number-requires
+put-number-requires : tie.Need-put_number-b-requires
 put-number-requires c κs = search rules
 
-put-byte-requires-2 : tie.Need-put-byte-requires-2
+put-byte-requires-2 : tie.Need-put_byte-c-requires
 put-byte-requires-2 c κs = search rules
 
-put-number-requires-2 : tie.Need-put-number-requires-2
+put-number-requires-2 : tie.Need-put_number-requires
 put-number-requires-2 c κs = search rules
 
-same_length : tie.Need-same-length
+same_length : tie.Need-shape_of-out
 same_length c = search rules
 
 returns : tie.Need-returns
 unfolding pair_text
-returns c = puts_as {q = 22} (puts_then c.before.before.before.before.before.before.before.before.before.before.before.before.before.before.put_byte.ensures (puts_then c.before.before.before.before.before.before.before.before.before.before.put-number.ensures (puts_then c.before.before.before.before.before.before.put-byte2.ensures c.before.before.put-number2.ensures))) refl (omega arith)
+returns c = puts_as {q = 22} (puts_then c.put_byte-a.ensures (puts_then c.put_number-b.ensures (puts_then c.put_byte-c.ensures c.put_number.ensures))) refl (omega arith)
 
-pub put-pair-spec : {M : Type 1} → statement M
-put-pair-spec =
+pub put_pair_spec : {M : Type 1} → statement M
+put_pair_spec =
     tie.close
     (tie.spec
     put-byte-requires

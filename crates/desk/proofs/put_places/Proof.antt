@@ -12,46 +12,46 @@ use Rattle.desk.specs.Needs.{Puts}
 use Rattle.desk.specs.Text.{places_text}
 use Rattle.desk.proofs.Texts.{puts_none, puts_then, puts_as, places_more, puts-length}
 
-abbrev invariant-loop : tie.invariant-loop
+abbrev invariant-loop : tie.invariant-loop-i
 invariant-loop out₀ at numbers end₀ i₀ out end i = (i ≤ length numbers) × Puts (11 * i) out₀ at (places_text (take i numbers)) end out
 
-abbrev decreases-loop : tie.decreases-loop
+abbrev decreases-loop : tie.decreases-loop-i
 decreases-loop out₀ at numbers end₀ i₀ out end i = length numbers - i
 
-loop-holds : tie.Need-loop-init invariant-loop decreases-loop
+loop-holds : tie.Need-loop-i-init invariant-loop decreases-loop
 unfolding places_text
 loop-holds c = (omega arith, puts_none _ _)
 
-mul-put-place : tie.Need-overflow-mul-put-place invariant-loop decreases-loop
+mul-put-place : tie.Need-offset_bounds-numbers-i invariant-loop decreases-loop
 mul-put-place c = search rules
 
-shared-slice-read-put-place : tie.Need-shared-slice-read-put-place invariant-loop decreases-loop
+shared-slice-read-put-place : tie.Need-bounds-numbers-i invariant-loop decreases-loop
 shared-slice-read-put-place c = search rules
 
-put-place-requires : tie.Need-put-place-requires invariant-loop decreases-loop
-put-place-requires c κs = omega (arith, puts-length c.before.before.before.loop.invariant.1)
+put-place-requires : tie.Need-put_place-end-requires invariant-loop decreases-loop
+put-place-requires c κs = omega (arith, puts-length c.loop-i.invariant.1)
 
-add-i : tie.Need-overflow-add-i invariant-loop decreases-loop
+add-i : tie.Need-overflow_add-i invariant-loop decreases-loop
 add-i c = search rules
 
-loop-less : tie.Need-loop-smaller invariant-loop decreases-loop
+loop-less : tie.Need-loop-i-smaller invariant-loop decreases-loop
 loop-less c = search rules
 
-loop-again : tie.Need-loop-preserved invariant-loop decreases-loop
+loop-again : tie.Need-loop-i-preserved invariant-loop decreases-loop
 loop-again c =
-    let l = c.before.before.before.before.before.before.loop in (
+    let l = c.loop-i in (
       omega arith,
-      puts_as {q = 11 * (l.i + 1)} (puts_then l.invariant.1 c.before.before.put-place.ensures) (places_more _ l.i c.before.before.before.before.before.loop-test.true) (omega arith),
+      puts_as {q = 11 * (l.i + 1)} (puts_then l.invariant.1 c.put_place-end.ensures) (places_more _ l.i c.loop-i-test.true) (omega arith),
     )
 
-same_length : tie.Need-same-length invariant-loop decreases-loop
-same_length c = puts-length c.before.loop.invariant.1
+same_length : tie.Need-shape_of-out invariant-loop decreases-loop
+same_length c = puts-length c.loop-i.invariant.1
 
 returns : tie.Need-returns invariant-loop decreases-loop
-returns c = puts_as c.before.loop.invariant.1 (ap places_text (take_all _ _ c.loop-test.false)) (omega arith)
+returns c = puts_as c.loop-i.invariant.1 (ap places_text (take_all _ _ c.loop-i-test.false)) (omega arith)
 
-pub put-places-spec : {M : Type 1} → statement M
-put-places-spec =
+pub put_places_spec : {M : Type 1} → statement M
+put_places_spec =
     tie.close
     (tie.spec
     invariant-loop

@@ -7,20 +7,20 @@ use mathlib.Core.Path.{sym}
 use borrow.Author.Tests.{le-leb, lt-leb}
 use Rattle.desk.specs.Needs.{ready_length}
 
-frame-length-requires : tie.Need-frame-length-requires
+frame-length-requires : tie.Need-frame_length-n-requires
 frame-length-requires c κs = search rules
 
-returns : tie.Need-returns
+returns : tie.Need-returns-then-n-s
 unfolding ready_length
-returns c = rw (sym c.before.frame-length.ensures, le-leb _ _ c.if1.true)
+returns c = rw (sym c.frame_length-n.ensures, le-leb _ _ c.if-n-s.true)
 
-returns-2 : tie.Need-returns-2
+returns-2 : tie.Need-returns-then-ended
 unfolding ready_length
-returns-2 c = rw (sym c.before.before.frame-length.ensures, lt-leb _ _ c.before.if1.false, c.if2.true)
+returns-2 c = rw (sym c.frame_length-n.ensures, lt-leb _ _ c.if-n-s.false, c.if-ended.true)
 
-returns-3 : tie.Need-returns-3
+returns-3 : tie.Need-returns
 unfolding ready_length
-returns-3 c = rw (sym c.before.before.frame-length.ensures, lt-leb _ _ c.before.if1.false, c.if2.false)
+returns-3 c = rw (sym c.frame_length-n.ensures, lt-leb _ _ c.if-n-s.false, c.if-ended.false)
 
-pub ready-length-spec : {M : Type 1} → statement M
-ready-length-spec = tie.close (tie.spec frame-length-requires returns returns-2 returns-3)
+pub ready_length_spec : {M : Type 1} → statement M
+ready_length_spec = tie.close (tie.spec frame-length-requires returns returns-2 returns-3)

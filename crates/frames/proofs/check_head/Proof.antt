@@ -11,75 +11,75 @@ use lib.ListN.{length}
 use Rattle.frames.specs.Frames.{version, body_length, kind}
 use Rattle.frames.proofs.Heads.{too_short, other_version, long_body, other_length, other_kind, sound-head}
 
-returns : tie.Need-returns
-returns c = sym (too_short _ _ c.if1.true)
+returns : tie.Need-returns-then-frame-lt4
+returns c = sym (too_short _ _ c.if-frame-lt4.true)
 
-shared-slice-read-if2 : tie.Need-shared-slice-read-if2
+shared-slice-read-if2 : tie.Need-bounds-frame-0
 shared-slice-read-if2 c = search rules
 
-returns-2 : tie.Need-returns-2
+returns-2 : tie.Need-returns-then-frame-ne1
 unfolding version
-returns-2 c = sym (other_version _ _ c.before.before.if1.false c.if2.true)
+returns-2 c = sym (other_version _ _ c.if-frame-lt4.false c.if-frame-ne1.true)
 
-shared-slice-read-wide : tie.Need-shared-slice-read-wide
+shared-slice-read-wide : tie.Need-bounds-frame-1
 shared-slice-read-wide c = search rules
 
 wide-requires : tie.Need-wide-requires
 wide-requires c κs = search rules
 
-mul-body : tie.Need-overflow-mul-body
+mul-body : tie.Need-overflow_mul-body
 mul-body c = search rules
 
-shared-slice-read-wide-2 : tie.Need-shared-slice-read-wide-2
+shared-slice-read-wide-2 : tie.Need-bounds-frame-2
 shared-slice-read-wide-2 c = search rules
 
 wide-requires-2 : tie.Need-wide-requires-2
 wide-requires-2 c κs = search rules
 
-add_body : tie.Need-overflow-add-body
+add_body : tie.Need-overflow_add-body
 add_body c = search rules
 
 -- what is known once the length is read
-module _ (c : tie.After-wide2) where
+module _ (c : tie.After-wide-2) where
   abbrev f : List ℕ
-  f = c.before.before.before.before.before.before.before.before.args.frame.now
+  f = c.args.frame.now
 
   abbrev k : ℕ
-  k = c.before.before.before.before.before.before.before.before.args.kind
+  k = c.args.kind
 
   long : 4 ≤ length f
-  long = c.before.before.before.before.before.before.if1.false
+  long = c.if-frame-lt4.false
 
   of-version : version f ≡ 1
   unfolding version
-  of-version = c.before.before.before.before.if2.false
+  of-version = c.if-frame-ne1.false
 
-  body : body_length f ≡ c.before.before.wide.result * 256 + c.wide2.result
+  body : body_length f ≡ c.wide.result * 256 + c.wide-2.result
   unfolding body_length
-  body = omega (arith, c.before.before.wide.ensures.0, c.wide2.ensures.0)
+  body = omega (arith, c.wide.ensures.0, c.wide-2.ensures.0)
 
-returns-3 : tie.Need-returns-3
-returns-3 c = let w = c.before in sym (long_body (k w) (f w) (long w) (of-version w) (omega (arith, body w, c.if3.true)))
+returns-3 : tie.Need-returns-then-body-gt4096
+returns-3 c = let w = c.before in sym (long_body (k w) (f w) (long w) (of-version w) (omega (arith, body w, c.if-body-gt4096.true)))
 
-sub-if4 : tie.Need-overflow-sub-if4
+sub-if4 : tie.Need-overflow_sub-frame
 sub-if4 c = search rules
 
-returns-4 : tie.Need-returns-4
-returns-4 c = let w = c.before.before in sym (other_length (k w) (f w) (long w) (of-version w) (omega (arith, body w, c.before.if3.false)) (λ e. c.if4.true (omega (arith, body w, e))))
+returns-4 : tie.Need-returns-then-body-frame
+returns-4 c = let w = c.before.before in sym (other_length (k w) (f w) (long w) (of-version w) (omega (arith, body w, c.if-body-gt4096.false)) (λ e. c.if-body-frame.true (omega (arith, body w, e))))
 
-shared-slice-read-if5 : tie.Need-shared-slice-read-if5
+shared-slice-read-if5 : tie.Need-bounds-frame-3
 shared-slice-read-if5 c = search rules
 
-returns-5 : tie.Need-returns-5
+returns-5 : tie.Need-returns-then-frame-kind
 unfolding kind
-returns-5 c = let w = c.before.before.before.before in sym (other_kind (k w) (f w) (long w) (of-version w) (omega (arith, body w, c.before.before.before.if3.false)) (omega (arith, body w, c.before.before.if4.false)) c.if5.true)
+returns-5 c = let w = c.before.before.before.before in sym (other_kind (k w) (f w) (long w) (of-version w) (omega (arith, body w, c.if-body-gt4096.false)) (omega (arith, body w, c.if-body-frame.false)) c.if-frame-kind.true)
 
-returns-6 : tie.Need-returns-6
+returns-6 : tie.Need-returns
 unfolding kind
-returns-6 c = let w = c.before.before.before.before in sym (sound-head (k w) (f w) (long w) (of-version w) (omega (arith, body w, c.before.before.before.if3.false)) (omega (arith, body w, c.before.before.if4.false)) c.if5.false)
+returns-6 c = let w = c.before.before.before.before in sym (sound-head (k w) (f w) (long w) (of-version w) (omega (arith, body w, c.if-body-gt4096.false)) (omega (arith, body w, c.if-body-frame.false)) c.if-frame-kind.false)
 
-pub check-head-spec : {M : Type 1} → statement M
-check-head-spec =
+pub check_head_spec : {M : Type 1} → statement M
+check_head_spec =
     tie.close
     (tie.spec
     returns

@@ -13,54 +13,56 @@ use Rattle.ingest.proofs.judge.Tie as tie
 abbrev given : tie.Start → Memory
 given s = memory s.args.arena.now s.args.table.now s.args.k
 
-returns : tie.Need-returns
-returns c = let s = c.before.before.before in sym (plan_damaged (given s) s.args.plan c.if1.true)
+returns : tie.Need-returns-then-plan
+returns c = let s = c in sym (plan_damaged (given s) s.args.plan c.if-plan.true)
 
-max-terms-requires : tie.Need-max-terms-requires
+max-terms-requires : tie.Need-max_terms-requires
 max-terms-requires c κs = search rules
 
-add-if2 : tie.Need-overflow-add-if2
+add-if2 : tie.Need-overflow_add-k
 add-if2 c =
-    let s = c.before.before.before.before.before.before in
+    let s = c in
     omega (arith, max_terms_small s.args.table.now, s.requires.0.few, s.requires.1)
 
-returns-2 : tie.Need-returns-2
+returns-2 : tie.Need-returns-then-max_terms-k
 returns-2 c =
-    let t = c.before.before.before in
-    let s = t.before.before.before.before in
-    sym (plan_terms (given s) s.args.plan t.before.if1.false (omega (arith, c.if2.true, t.max-terms.ensures)))
+    let t = c in
+    let s = t in
+    sym (plan_terms (given s) s.args.plan t.if-plan.false (omega (arith, c.if-max_terms-k.true, t.max_terms.ensures)))
 
 -- the terms fit
-module _ (c : tie.Else2) where
-  abbrev e : tie.Else1
+module _ (c : tie.Else-max_terms-k) where
+  abbrev e : tie.Else-plan
   e = c.before.before.before.before
+
 
   abbrev s : tie.Start
   s = e.before.before.before
 
-  few : s.args.k.terms + s.args.plan.terms ≤ max_terms s.args.table.now
-  few = omega (arith, c.if2.false, c.before.before.before.max-terms.ensures)
 
-capacity-of-requires : tie.Need-capacity-of-requires
+  few : s.args.k.terms + s.args.plan.terms ≤ max_terms s.args.table.now
+  few = omega (arith, c.if-max_terms-k.false, c.max_terms.ensures)
+
+capacity-of-requires : tie.Need-capacity_of-requires
 capacity-of-requires c κs = search rules
 
-sub-if3 : tie.Need-overflow-sub-if3
+sub-if3 : tie.Need-overflow_sub-capacity_of
 sub-if3 c = search rules
 
-returns-3 : tie.Need-returns-3
+returns-3 : tie.Need-returns-then-capacity_of-k
 returns-3 c =
-    let k = c.before.before.before in
-    let t = k.before in
-    sym (plan_blocks (given (s t)) (s t).args.plan (e t).if1.false (few t) (omega (arith, c.if3.true, k.capacity-of.ensures)))
+    let k = c in
+    let t = k.before.before.before.before in
+    sym (plan_blocks (given (s t)) (s t).args.plan (e t).if-plan.false (few t) (omega (arith, c.if-capacity_of-k.true, k.capacity_of.ensures)))
 
-returns-4 : tie.Need-returns-4
+returns-4 : tie.Need-returns
 returns-4 c =
-    let k = c.before.before.before in
-    let t = k.before in
-    sym (plan_none (given (s t)) (s t).args.plan (e t).if1.false (few t) (omega (arith, c.if3.false, k.capacity-of.ensures)))
+    let k = c in
+    let t = k.before.before.before.before in
+    sym (plan_none (given (s t)) (s t).args.plan (e t).if-plan.false (few t) (omega (arith, c.if-capacity_of-k.false, k.capacity_of.ensures)))
 
-pub judge-spec : {M : Type 1} → statement M
-judge-spec =
+pub judge_spec : {M : Type 1} → statement M
+judge_spec =
     tie.close
     (tie.spec
     returns

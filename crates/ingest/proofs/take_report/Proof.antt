@@ -21,145 +21,148 @@ m s = memory s.args.arena.now s.args.table.now s.args.k
 abbrev frame : tie.Start → List ℕ
 frame s = s.args.frame.now
 
-slice-aggregate-read-report : tie.Need-slice-aggregate-read-report
+slice-aggregate-read-report : tie.Need-slice_bounds-read_report-end
 slice-aggregate-read-report c = search rules
 
-slice-aggregate-read-report-2 : tie.Need-slice-aggregate-read-report-2
+slice-aggregate-read-report-2 : tie.Need-slice_bounds-read_report-end-2
 slice-aggregate-read-report-2 c = search rules
 
-read-report-requires : tie.Need-read-report-requires
+read-report-requires : tie.Need-read_report-requires
 read-report-requires c κs = (omega arith, omega arith)
 
-enum-known-n : tie.Need-enum-known-n
+enum-known-n : tie.Need-enum_known-n
 enum-known-n c = search rules
 
 refused-requires : tie.Need-refused-requires
 refused-requires c κs = search rules
 
-enum-known-count : tie.Need-enum-known-count
+enum-known-count : tie.Need-enum_known-count
 enum-known-count c = search rules
 
 -- a sound frame
-module _ (c : tie.After-count) where
+module _ (c : tie.In-Lines) where
   abbrev s : tie.Start
-  s = c.before.before.before.before.before.before.before.before.before.before
+  s = c.before.before.before.before.before.before.before.before.before
 
-  abbrev r : tie.After-read-report
-  r = c.before.before.before.before
 
-  told : (report_refusal (frame s) ≡ 0) × (c.count.given.0.0 ≡ length (lines (frame s)))
-  told = lines-sound (frame s) _ (sym r.read-report.ensures.0 ∙ c.count.given.1)
+  abbrev r : tie.After-read_report
+  r = c.before.before.before
+
+
+  told : (report_refusal (frame s) ≡ 0) × (c.in-Lines.count ≡ length (lines (frame s)))
+  told = lines-sound (frame s) _ (sym r.read_report.ensures.0 ∙ c.in-Lines.is)
 
   sound : report_refusal (frame s) ≡ 0
   sound = told.0
 
-slice-aggregate-judge-report : tie.Need-slice-aggregate-judge-report
+slice-aggregate-judge-report : tie.Need-slice_bounds-judge_report-end
 slice-aggregate-judge-report c = search rules
 
-slice-aggregate-judge-report-2 : tie.Need-slice-aggregate-judge-report-2
+slice-aggregate-judge-report-2 : tie.Need-slice_bounds-judge_report-end-in-Lines
 slice-aggregate-judge-report-2 c = search rules
 
-slice-aggregate-judge-report-3 : tie.Need-slice-aggregate-judge-report-3
+slice-aggregate-judge-report-3 : tie.Need-slice_bounds-judge_report-end-in-Lines-2
 slice-aggregate-judge-report-3 c = search rules
 
-judge-report-requires : tie.Need-judge-report-requires
+judge-report-requires : tie.Need-judge_report-refusal-requires
 judge-report-requires c κs =
-    let e = c.before.before.before.before.before.before in
-    (sound e, (r e).read-report.ensures.1 (sound e), (told e).1, omega arith)
+    let e = c.before.before.before in
+    (sound e, (r e).read_report.ensures.1 (sound e), (told e).1, omega arith)
 
-refused-requires-2 : tie.Need-refused-requires-2
+refused-requires-2 : tie.Need-refused-requires-then-refusal-ne0
 refused-requires-2 c κs = search rules
 
-same_length : tie.Need-same-length
+same_length : tie.Need-shape_of-arena-then-refusal-ne0
 same_length c = search rules
 
-same-length-2 : tie.Need-same-length-2
+same-length-2 : tie.Need-shape_of-table-then-refusal-ne0
 same-length-2 c = search rules
 
-returns : tie.Need-returns
+returns : tie.Need-returns-then-refusal-ne0
 unfolding taken_of
 returns c =
-    let j = c.before.before.before in
+    let j = c in
     let e = j.before.before.before.before.before.before.before in
-    rw (c.refused2.ensures, j.judge-report.ensures.0)
-    (answers (m (s e)) (frame (s e)) (call-refused (m (s e)) (frame (s e)) (rw (← j.judge-report.ensures.0) c.before.if1.true)))
+    rw (c.refused-then-refusal-ne0.ensures, j.judge_report-refusal.ensures.0)
+    (answers (m (s e)) (frame (s e)) (call-refused (m (s e)) (frame (s e)) (rw (← j.judge_report-refusal.ensures.0) c.if-refusal-ne0.true)))
 
 -- a call that is not refused
-module _ (c : tie.Else1) where
-  abbrev e : tie.After-count
-  e = c.before.before.before.before.before.before.before.before.before
+module _ (c : tie.Else-refusal-ne0) where
+  abbrev e : tie.In-Lines
+  e = c.before.before.before.before.before.before
+
 
   judges : call_refusal (m (s e)) (frame (s e)) ≡ 0
-  judges = sym c.before.before.judge-report.ensures.0 ∙ c.if1.false
+  judges = sym c.judge_report-refusal.ensures.0 ∙ c.if-refusal-ne0.false
 
   held : HeldIn (m (s e))
   held =
       let w : Judged (m (s e)) (frame (s e)) = judged (m (s e)) (frame (s e)) judges in
       held_right (m (s e)) w.counters w.numbered (omega arith)
 
-slice-aggregate-write-lines : tie.Need-slice-aggregate-write-lines
+slice-aggregate-write-lines : tie.Need-slice_bounds-write_lines-end
 slice-aggregate-write-lines c = search rules
 
-slice-aggregate-write-lines-2 : tie.Need-slice-aggregate-write-lines-2
+slice-aggregate-write-lines-2 : tie.Need-slice_bounds-write_lines-end-in-Lines
 slice-aggregate-write-lines-2 c = search rules
 
-slice-aggregate-write-lines-3 : tie.Need-slice-aggregate-write-lines-3
+slice-aggregate-write-lines-3 : tie.Need-slice_bounds-write_lines-end-in-Lines-2
 slice-aggregate-write-lines-3 c = search rules
 
-write-lines-requires : tie.Need-write-lines-requires
+write-lines-requires : tie.Need-write_lines-w-requires
 write-lines-requires c κs =
     let i = c.before.before.before.before.before in
-    let j = i.before.before in
-    (held i, sound (e i), (r (e i)).read-report.ensures.1 (sound (e i)), omega arith, j.judge-report.ensures.1 i.if1.false)
+    let j = i in
+    (held i, sound (e i), (r (e i)).read_report.ensures.1 (sound (e i)), omega arith, j.judge_report-refusal.ensures.1 i.if-refusal-ne0.false)
 
-refused-requires-3 : tie.Need-refused-requires-3
+refused-requires-3 : tie.Need-refused-requires-then-w
 refused-requires-3 c κs = search rules
 
-same-length-3 : tie.Need-same-length-3
+same-length-3 : tie.Need-shape_of-arena-then-w
 same-length-3 c = search rules
 
-same-length-4 : tie.Need-same-length-4
+same-length-4 : tie.Need-shape_of-table-then-w
 same-length-4 c = search rules
 
-returns-2 : tie.Need-returns-2
+returns-2 : tie.Need-returns-then-w
 unfolding taken_of
 returns-2 c =
-    let w = c.before.before.before.before.before.before.before in
-    let i = w.before.before.before.before.before.before in
+    let w = c in
+    let i = w.before.before.before.before.before.before.before.before.before.before.before.before.before in
     let k = s (e i) in
-    rw c.refused3.ensures
-    (answers (m k) (frame k) (call-stopped (m k) (frame k) (judges i) w.write-lines.ensures c.before.if2.true))
+    rw c.refused-then-w.ensures
+    (answers (m k) (frame k) (call-stopped (m k) (frame k) (judges i) w.write_lines-w.ensures c.if-w.true))
 
-add-number : tie.Need-overflow-add-number
+add-number : tie.Need-overflow_add-number
 add-number c =
     let i = c.before.before.before.before.before.before.before.before.before.before.before.before.before in
     omega (arith, (held i).room.numbered)
 
-returns-3 : tie.Need-returns-3
+returns-3 : tie.Need-returns-in-Refused
 unfolding taken_of
 returns-3 c =
-    let n = c.before.before in
-    let k = n.before.before.before.before.before.before.before.before.before.before in
-    let r = report-refused (frame k) _ (sym n.before.before.before.before.read-report.ensures.0 ∙ n.n.given.1) in
+    let n = c in
+    let k = n in
+    let r = report-refused (frame k) _ (sym n.read_report.ensures.0 ∙ n.in-Refused.is) in
     rw (c.refused.ensures, ← r.0)
     (answers (m k) (frame k) (call-frame-refused (m k) (frame k) (omega (arith, r.0, r.1))))
 
-same-length-5 : tie.Need-same-length-5
+same-length-5 : tie.Need-shape_of-arena
 same-length-5 c = search rules
 
-same-length-6 : tie.Need-same-length-6
+same-length-6 : tie.Need-shape_of-table
 same-length-6 c = search rules
 
-returns-4 : tie.Need-returns-4
+returns-4 : tie.Need-returns-else-w
 unfolding taken_of
 returns-4 c =
-    let w = c.before.before.before.before.before.before.before in
-    let i = w.before.before.before.before.before.before in
+    let w = c in
+    let i = w.before.before.before.before.before.before.before.before.before.before.before.before.before in
     let k = s (e i) in
-    answers (m k) (frame k) (call-taken (m k) (frame k) (judges i) w.write-lines.ensures c.before.if2.false)
+    answers (m k) (frame k) (call-taken (m k) (frame k) (judges i) w.write_lines-w.ensures c.if-w.false)
 
-pub take-report-spec : {M : Type 1} → statement M
-take-report-spec =
+pub take_report_spec : {M : Type 1} → statement M
+take_report_spec =
     tie.close
     (tie.spec
     slice-aggregate-read-report

@@ -15,15 +15,16 @@ use Rattle.ingest.proofs.Writing.{one-damaged, known_place, known_one}
 use Rattle.ingest.proofs.write_line.Statement.{statement}
 use Rattle.ingest.proofs.write_line.Tie as tie
 
-find-again-requires : tie.Need-find-again-requires
+find-again-requires : tie.Need-find_again-requires
 find-again-requires c κs =
-    let s = c.before.before.before.before.before.before in
+    let s = c in
     (used-inside s.args.arena.now s.args.k.used s.requires.0.room.inside, s.requires.1, s.requires.2, s.requires.3)
 
 -- the line
-module _ (c : tie.After-find-again) where
+module _ (c : tie.After-find_again) where
   abbrev s : tie.Start
-  s = c.before.before.before.before.before.before.before
+  s = c.before.before.before.before
+
 
   abbrev m : Memory
   m = memory s.args.arena.now s.args.table.now s.args.k
@@ -35,78 +36,78 @@ module _ (c : tie.After-find-again) where
   l = line_of s.args.name.now s.args.count
 
   -- what was found
-  is : (x : Found) → c.find-again.result ≡ x → sought m.arena m.counters.used m.table l.term ≡ x
-  is x e = sym c.find-again.ensures ∙ e
+  is : (x : Found) → c.find_again.result ≡ x → sought m.arena m.counters.used m.table l.term ≡ x
+  is x e = sym c.find_again.ensures ∙ e
 
   -- and the place that it leads to
-  at : (x : Found) → c.find-again.result ≡ x → place_of m l ≡ placed m.arena m.counters l.count x
+  at : (x : Found) → c.find_again.result ≡ x → place_of m l ≡ placed m.arena m.counters l.count x
   unfolding place_of
   at x e = rw (is x e)
 
-enum_told : tie.Need-enum-told
+enum_told : tie.Need-enum_told-1
 enum_told c = search rules
 
-enum-known-slot : tie.Need-enum-known-slot
+enum-known-slot : tie.Need-enum_known-slot
 enum-known-slot c = search rules
 
-open-line-requires : tie.Need-open-line-requires
+open-line-requires : tie.Need-open_line-requires
 open-line-requires c κs =
-    let i = c.before.before.before in
-    let f = i.before.before in
-    ((s f).requires.0.room, (s f).requires.1, λ some. (search_unknown (m f).arena (m f).counters.used (m f).table (l f).term _ some (is f _ i.slot.given.1)).0)
+    let i = c in
+    let f = i.before.before.before in
+    ((s f).requires.0.room, (s f).requires.1, λ some. (search_unknown (m f).arena (m f).counters.used (m f).table (l f).term _ some (is f _ i.in-Unknown.is)).0)
 
-enum-known-h : tie.Need-enum-known-h
+enum-known-h : tie.Need-enum_known-h
 enum-known-h c = search rules
 
-append-line-requires : tie.Need-append-line-requires
+append-line-requires : tie.Need-append_line-requires
 append-line-requires c κs =
-    let i = c.before.before.before in
-    let f = i.before.before in
-    ((s f).requires.0.room, (search-at (m f).arena (m f).counters.used (m f).table (l f).term _ (is f _ i.h.given.1)).below)
+    let i = c in
+    let f = i.before.before.before in
+    ((s f).requires.0.room, (search-at (m f).arena (m f).counters.used (m f).table (l f).term _ (is f _ i.in-At.is)).below)
 
-same_length : tie.Need-same-length
+same_length : tie.Need-shape_of-arena-in-Damaged
 same_length c = search rules
 
-same-length-2 : tie.Need-same-length-2
+same-length-2 : tie.Need-shape_of-table-in-Damaged
 same-length-2 c = search rules
 
-returns : tie.Need-returns
+returns : tie.Need-returns-in-Damaged
 unfolding placed marking
 returns c =
-    let f = c.before.before in
-    rw (at f _ c.enum_told.given.1) (sym (one-damaged (m f) (n f) (l f)), refl)
+    let f = c.before in
+    rw (at f _ c.in-Damaged.is) (sym (one-damaged (m f) (n f) (l f)), refl)
 
-same-length-3 : tie.Need-same-length-3
+same-length-3 : tie.Need-shape_of-arena-in-Unknown
 same-length-3 c = search rules
 
-same-length-4 : tie.Need-same-length-4
+same-length-4 : tie.Need-shape_of-table-in-Unknown
 same-length-4 c = search rules
 
-returns-2 : tie.Need-returns-2
+returns-2 : tie.Need-returns-in-Unknown
 unfolding placed marking
 returns-2 c =
-    let o = c.before.before.before.before in
-    let i = o.before.before.before.before in
-    rw (at i.before.before _ i.slot.given.1) (o.open-line.ensures, refl)
+    let o = c in
+    let i = o in
+    rw (at i.before.before.before.before.before.before.before.before _ i.in-Unknown.is) (o.open_line.ensures, refl)
 
-same-length-5 : tie.Need-same-length-5
+same-length-5 : tie.Need-shape_of-arena-in-At
 same-length-5 c = search rules
 
-same-length-6 : tie.Need-same-length-6
+same-length-6 : tie.Need-shape_of-table-in-At
 same-length-6 c = search rules
 
-returns-3 : tie.Need-returns-3
+returns-3 : tie.Need-returns-in-At
 returns-3 c =
-    let o = c.before.before in
-    let i = o.before.before.before.before in
-    let f = i.before.before in
-    let q = is f _ i.h.given.1 in (
-      o.append-line.ensures.0 (m f).table (l f).term ∙ known_one (m f) (l f) _ q (n f) (s f).requires.0.few,
-      o.append-line.ensures.1 ∙ ap (marking (m f).arena (s f).args.marks.now) (sym (known_place (m f) (l f) _ q)),
+    let o = c in
+    let i = o in
+    let f = i.before.before.before.before.before.before in
+    let q = is f _ i.in-At.is in (
+      o.append_line.ensures.0 (m f).table (l f).term ∙ known_one (m f) (l f) _ q (n f) (s f).requires.0.few,
+      o.append_line.ensures.1 ∙ ap (marking (m f).arena (s f).args.marks.now) (sym (known_place (m f) (l f) _ q)),
     )
 
-pub write-line-spec : {M : Type 1} → statement M
-write-line-spec =
+pub write_line_spec : {M : Type 1} → statement M
+write_line_spec =
     tie.close
     (tie.spec
     find-again-requires

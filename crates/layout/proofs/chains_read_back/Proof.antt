@@ -7,5 +7,5 @@ use Rattle.layout.proofs.chains_read_back.Tie as tie
 returns : tie.Need-returns
 returns c = read_back
 
-pub chains-read-back-spec : {M : Type 1} → statement M
-chains-read-back-spec = tie.close (tie.spec returns)
+pub chains_read_back_spec : {M : Type 1} → statement M
+chains_read_back_spec = tie.close (tie.spec returns)

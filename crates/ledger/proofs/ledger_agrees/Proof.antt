@@ -7,5 +7,5 @@ use Rattle.ledger.proofs.ledger_agrees.Tie as tie
 returns : tie.Need-returns
 returns c = agree
 
-pub ledger-agrees-spec : {M : Type 1} → statement M
-ledger-agrees-spec = tie.close (tie.spec returns)
+pub ledger_agrees_spec : {M : Type 1} → statement M
+ledger_agrees_spec = tie.close (tie.spec returns)

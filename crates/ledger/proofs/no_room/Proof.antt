@@ -7,5 +7,5 @@ use Rattle.ledger.proofs.no_room.Tie as tie
 returns : tie.Need-returns
 returns c = no_room
 
-pub no-room-spec : {M : Type 1} → statement M
-no-room-spec = tie.close (tie.spec returns)
+pub no_room_spec : {M : Type 1} → statement M
+no_room_spec = tie.close (tie.spec returns)

@@ -9,13 +9,13 @@ use borrow.Author.Rules.{rules}
 use Rattle.lookup.proofs.find_term.Statement.{statement}
 use Rattle.lookup.proofs.find_term.Tie as tie
 
-slice-aggregate-fold : tie.Need-slice-aggregate-fold
+slice-aggregate-fold : tie.Need-slice_bounds-fold-end
 slice-aggregate-fold c = search rules
 
 fold-requires : tie.Need-fold-requires
 fold-requires c κs = search rules
 
-array-share-prefix-bytes : tie.Need-array-share-prefix-bytes
+array-share-prefix-bytes : tie.Need-slice_bounds-bytes-end
 array-share-prefix-bytes c = search rules
 
 -- the bytes looked up are the term's, folded
@@ -23,10 +23,11 @@ module _ (c : tie.After-fold) where
   abbrev s : tie.Start
   s = c.before.before.before.before.before
 
-  name_is : take (length s.args.term.now) c.fold.new.1.0 ≡ folded s.args.term.now
-  name_is = folded_front s.args.term.now _ c.fold.ensures s.pre.1
 
-slice-aggregate-name : tie.Need-slice-aggregate-name
+  name_is : take (length s.args.term.now) c.fold.new.into ≡ folded s.args.term.now
+  name_is = folded_front s.args.term.now _ c.fold.ensures s.requires.1
+
+slice-aggregate-name : tie.Need-slice_bounds-name-end
 slice-aggregate-name c = sym (ap length (name_is c.before.before) ∙ length-folded (s c.before.before).args.term.now)
 
 fnv1a-requires : tie.Need-fnv1a-requires
@@ -43,8 +44,8 @@ returns c =
     let a = (s o).args in
     c.find.ensures ∙ ap (lookup.search a.arena.now a.used a.table.now) (name_is o)
 
-pub find-term-spec : {M : Type 1} → statement M
-find-term-spec =
+pub find_term_spec : {M : Type 1} → statement M
+find_term_spec =
     tie.close
     (tie.spec
     slice-aggregate-fold

@@ -14,7 +14,7 @@ use Rattle.lookup.proofs.Search.{hit_here, hit_other, hit_unknown, hit_damaged}
 use Rattle.lookup.proofs.first_hit.Statement.{statement}
 use Rattle.lookup.proofs.first_hit.Tie as tie
 
-enum-known-found : tie.Need-enum-known-found
+enum-known-found : tie.Need-enum_known-found
 enum-known-found c = search rules
 
 -- nothing was found
@@ -24,27 +24,27 @@ none (At b) e (inr z) = absurd (omega arith)
 none (Unknown s) e k = sym (hit_unknown s e)
 none Damaged e k = sym (hit_damaged e)
 
-returns : tie.Need-returns
-returns c = none c.before.args.found c.before.args.entry c.match.keys2
+returns : tie.Need-returns-in_default
+returns c = none c.args.found c.args.entry c.in-At.keys2
 
-returns-2 : tie.Need-returns-2
+returns-2 : tie.Need-returns-then-entry-eq0
 returns-2 c =
-    let f = c.before.before in
-    rw f.found.given.1 (sym (hit_other _ f.before.before.args.entry (λ q. omega (arith, q, c.if1.true))))
+    let f = c in
+    rw f.in-At.is (sym (hit_other _ f.args.entry (λ q. omega (arith, q, c.if-entry-eq0.true))))
 
-sub-if2 : tie.Need-overflow-sub-if2
+sub-if2 : tie.Need-overflow_sub-entry
 sub-if2 c = search rules
 
-returns-3 : tie.Need-returns-3
+returns-3 : tie.Need-returns-then-entry-b
 returns-3 c =
-    let f = c.before.before.before in
-    rw f.found.given.1 (sym (hit_here _ f.before.before.args.entry (omega (arith, c.before.if1.false, c.if2.true))))
+    let f = c in
+    rw f.in-At.is (sym (hit_here _ f.args.entry (omega (arith, c.if-entry-eq0.false, c.if-entry-b.true))))
 
-returns-4 : tie.Need-returns-4
+returns-4 : tie.Need-returns-else-entry-b
 returns-4 c =
-    let f = c.before.before.before in
-    rw f.found.given.1 (sym (hit_other _ f.before.before.args.entry (λ q. omega (arith, q, c.if2.false))))
+    let f = c in
+    rw f.in-At.is (sym (hit_other _ f.args.entry (λ q. omega (arith, q, c.if-entry-b.false))))
 
-pub first-hit-spec : {M : Type 1} → statement M
-first-hit-spec =
+pub first_hit_spec : {M : Type 1} → statement M
+first_hit_spec =
     tie.close (tie.spec enum-known-found returns returns-2 sub-if2 returns-3 returns-4)

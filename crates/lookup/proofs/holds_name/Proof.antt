@@ -12,55 +12,55 @@ use borrow.Author.Rules.{rules}
 use Rattle.lookup.proofs.holds_name.Statement.{statement}
 use Rattle.lookup.proofs.holds_name.Tie as tie
 
-place-of-requires : tie.Need-place-of-requires
+place-of-requires : tie.Need-place_of-at-requires
 place-of-requires c κs = search rules
 
-add_wide : tie.Need-overflow-add-wide
+add_wide : tie.Need-overflow_add-at
 add_wide c = search rules
 
-shared-slice-read-wide : tie.Need-shared-slice-read-wide
+shared-slice-read-wide : tie.Need-bounds-arena-at
 shared-slice-read-wide c = search rules
 
 wide-requires : tie.Need-wide-requires
 wide-requires c κs = search rules
 
-returns : tie.Need-returns
+returns : tie.Need-returns-then-wide-n
 returns c =
-    let s = c.before.before.before.before.before.before in
-    let p = c.before.before.before in
-    let ne : get_or s.args.arena.now (place s.args.b + 17) 0 ≡ length s.args.name.now → ⊥ = λ e. c.if1.true (c.before.wide.ensures.0 ∙ rw p.place_of.ensures e) in
+    let s = c in
+    let p = c in
+    let ne : get_or s.args.arena.now (place s.args.b + 17) 0 ≡ length s.args.name.now → ⊥ = λ e. c.if-wide-n.true (c.wide.ensures.0 ∙ rw p.place_of-at.ensures e) in
     sym (other_length s.args.arena.now s.args.b s.args.name.now s.requires.0 s.requires.1 ne)
 
-add-from : tie.Need-overflow-add-from
+add-from : tie.Need-overflow_add-from
 add-from c = search rules
 
-add-to : tie.Need-overflow-add-to
+add-to : tie.Need-overflow_add-to
 add-to c = search rules
 
-sub-same-bytes : tie.Need-overflow-sub-same-bytes
+sub-same-bytes : tie.Need-slice_bounds-same_bytes-count
 sub-same-bytes c = search rules
 
-part-same-bytes-start : tie.Need-slice-bounds-same-bytes-start
+part-same-bytes-start : tie.Need-slice_bounds-same_bytes-start
 part-same-bytes-start c = search rules
 
-part-same-bytes-end : tie.Need-slice-bounds-same-bytes-end
+part-same-bytes-end : tie.Need-slice_bounds-same_bytes-end
 part-same-bytes-end c = search rules
 
-same-bytes-requires : tie.Need-same-bytes-requires
+same-bytes-requires : tie.Need-same_bytes-requires
 same-bytes-requires c κs = search rules
 
-returns-2 : tie.Need-returns-2
+returns-2 : tie.Need-returns
 returns-2 c =
-    let i = c.before.before in
-    let w = i.before in
-    let p = w.before.before in
-    let s = p.before.before.before in
-    let e : get_or s.args.arena.now (place s.args.b + 17) 0 ≡ length s.args.name.now = rw p.place_of.ensures at (sym w.wide.ensures.0) ∙ i.if1.false in
-    let n : p.place_of.result + 18 + length s.args.name.now - (p.place_of.result + 18) ≡ length s.args.name.now = omega arith in
-    c.same_bytes.ensures ∙ ap (λ (x : List ℕ). same x s.args.name.now) (own-length s.args.arena.now s.args.b s.args.name.now p.place_of.result _ p.place_of.ensures n e)
+    let i = c in
+    let w = i in
+    let p = w in
+    let s = p in
+    let e : get_or s.args.arena.now (place s.args.b + 17) 0 ≡ length s.args.name.now = rw p.place_of-at.ensures at (sym w.wide.ensures.0) ∙ i.if-wide-n.false in
+    let n : p.place_of-at.result + 18 + length s.args.name.now - (p.place_of-at.result + 18) ≡ length s.args.name.now = omega arith in
+    c.same_bytes.ensures ∙ ap (λ (x : List ℕ). same x s.args.name.now) (own-length s.args.arena.now s.args.b s.args.name.now p.place_of-at.result _ p.place_of-at.ensures n e)
 
-pub holds-name-spec : {M : Type 1} → statement M
-holds-name-spec =
+pub holds_name_spec : {M : Type 1} → statement M
+holds_name_spec =
     tie.close
     (tie.spec
     place-of-requires

@@ -24,10 +24,10 @@ rule : (bits : ℕ) → bits < 35 → get_or lengths bits 0 ≡ code_length bits
 unfolding lengths right code_length
 rule bits h = eqb→eq (get_or lengths bits 0) (code_length bits) (at right lengths tt bits h)
 
-array-read-result : tie.Need-array-read-result
+array-read-result : tie.Need-bounds-bits
 array-read-result c = search rules
 
-cast-result : tie.Need-overflow-cast-result
+cast-result : tie.Need-overflow_cast-result
 unfolding lengths code_length
 cast-result c = omega (arith, rule c.args.bits c.requires)
 
@@ -35,5 +35,5 @@ returns : tie.Need-returns
 unfolding lengths
 returns c = rule c.args.bits c.requires
 
-pub code-length-spec : {M : Type 1} → statement M
-code-length-spec = tie.close (tie.spec array-read-result cast-result returns)
+pub code_length_spec : {M : Type 1} → statement M
+code_length_spec = tie.close (tie.spec array-read-result cast-result returns)

@@ -7,5 +7,5 @@ use Rattle.postings.proofs.codes_round_trip.Tie as tie
 returns : tie.Need-returns
 returns c = record { decode-code = decode-code; code_decode = code_decode }
 
-pub codes-round-trip-spec : {M : Type 1} → statement M
-codes-round-trip-spec = tie.close (tie.spec returns)
+pub codes_round_trip_spec : {M : Type 1} → statement M
+codes_round_trip_spec = tie.close (tie.spec returns)

@@ -11,84 +11,84 @@ use Rattle.postings.proofs.Reading.{Read, start, part, seven, small, ended, zero
 use Rattle.postings.proofs.read_value.Statement.{statement}
 use Rattle.postings.proofs.read_value.Tie as tie
 
-abbrev invariant-loop : tie.invariant-loop
+abbrev invariant-loop : tie.invariant-loop-i
 invariant-loop s most v₀ weight₀ i₀ v weight i = Read s v weight i
 
-abbrev decreases-loop : tie.decreases-loop
+abbrev decreases-loop : tie.decreases-loop-i
 decreases-loop s most v₀ weight₀ i₀ v weight i = length s - i
 
-loop-holds : tie.Need-loop-init invariant-loop decreases-loop
+loop-holds : tie.Need-loop-i-init invariant-loop decreases-loop
 loop-holds c = start c.args.s.now
 
-shared-slice-read-b : tie.Need-shared-slice-read-b invariant-loop decreases-loop
+shared-slice-read-b : tie.Need-bounds-s-i invariant-loop decreases-loop
 shared-slice-read-b c = omega arith
 
-cast-b : tie.Need-overflow-cast-b invariant-loop decreases-loop
-cast-b c = omega (arith, c.shared-slice-known.given c.before.before.loop.i)
+cast-b : tie.Need-overflow_cast-b invariant-loop decreases-loop
+cast-b c = omega (arith, c.shared_slice_known-1.given c.loop-i.i)
 
-returns : tie.Need-returns invariant-loop decreases-loop
+returns : tie.Need-returns-then-b-eq0 invariant-loop decreases-loop
 returns c =
-    let l = c.before.before.before.before in
-    sym (ap (at_most _) (zero_byte l.loop.invariant c.before.before.before.loop-test.true c.if2.true) ∙ none _)
+    let l = c in
+    sym (ap (at_most _) (zero_byte l.loop-i.invariant c.loop-i-test.true c.if-b-eq0.true) ∙ none _)
 
-mul-n : tie.Need-overflow-mul-n invariant-loop decreases-loop
+mul-n : tie.Need-overflow_mul-n invariant-loop decreases-loop
 mul-n c =
-    let l = c.before.before.before.before in
-    omega (arith, part l.loop.weight c.before.if1.true, small l.loop.invariant)
+    let l = c in
+    omega (arith, part l.loop-i.weight c.if-b-lt128.true, small l.loop-i.invariant)
 
-add-n : tie.Need-overflow-add-n invariant-loop decreases-loop
+add-n : tie.Need-overflow_add-n invariant-loop decreases-loop
 add-n c =
-    let l = c.before.before.before.before in
-    omega (arith, part l.loop.weight c.before.if1.true, small l.loop.invariant)
+    let l = c in
+    omega (arith, part l.loop-i.weight c.if-b-lt128.true, small l.loop-i.invariant)
 
-add-t14 : tie.Need-overflow-add-t14 invariant-loop decreases-loop
+add-t14 : tie.Need-overflow_add-result invariant-loop decreases-loop
 add-t14 c = omega arith
 
-is : (c : tie.Else2 invariant-loop decreases-loop) → let l = c.before.before.before.before in
-    value l.before.args.s.now ≡ Number (l.loop.v + get_or l.before.args.s.now l.loop.i 0 * l.loop.weight) (l.loop.i + 1)
-is c = last_byte c.before.before.before.before.loop.invariant c.before.before.before.loop-test.true (omega arith) c.before.if1.true
+is : (c : tie.Else-b-eq0 invariant-loop decreases-loop) → let l = c in
+    value l.args.s.now ≡ Number (l.loop-i.v + get_or l.args.s.now l.loop-i.i 0 * l.loop-i.weight) (l.loop-i.i + 1)
+is c = last_byte c.loop-i.invariant c.loop-i-test.true (omega arith) c.if-b-lt128.true
 
-returns-2 : tie.Need-returns-2 invariant-loop decreases-loop
-returns-2 c = sym (ap (at_most _) (is c.before) ∙ at_most_lem _ _ _ c.if3.true)
+returns-2 : tie.Need-returns-then-n-most invariant-loop decreases-loop
+returns-2 c = sym (ap (at_most _) (is c.before) ∙ at_most_lem _ _ _ c.if-n-most.true)
 
-returns-3 : tie.Need-returns-3 invariant-loop decreases-loop
-returns-3 c = sym (ap (at_most _) (is c.before) ∙ over _ _ _ c.if3.false)
+returns-3 : tie.Need-returns-then-b-lt128 invariant-loop decreases-loop
+returns-3 c = sym (ap (at_most _) (is c.before) ∙ over _ _ _ c.if-n-most.false)
 
-returns-4 : tie.Need-returns-4 invariant-loop decreases-loop
+returns-4 : tie.Need-returns-then-i-eq4 invariant-loop decreases-loop
 returns-4 c =
-    let l = c.before.before.before.before in
-    sym (too_long l.loop.invariant c.before.before.before.loop-test.true c.before.if1.false (c.before.before.shared-slice-known.given l.loop.i).fits c.if4.true l.before.args.most l.before.requires)
+    let l = c in
+    sym (too_long l.loop-i.invariant c.loop-i-test.true c.if-b-lt128.false (c.shared_slice_known-1.given l.loop-i.i).fits c.if-i-eq4.true l.args.most l.requires)
 
-mul-v : tie.Need-overflow-mul-v invariant-loop decreases-loop
+mul-v : tie.Need-overflow_mul-v invariant-loop decreases-loop
 mul-v c =
-    let l = c.before.before.before.before in
-    omega (arith, seven c.before.if1.false (c.before.before.shared-slice-known.given l.loop.i).fits l.loop.weight, small l.loop.invariant)
+    let l = c in
+    omega (arith, seven c.if-b-lt128.false (c.shared_slice_known-1.given l.loop-i.i).fits l.loop-i.weight, small l.loop-i.invariant)
 
-add-v : tie.Need-overflow-add-v invariant-loop decreases-loop
+add-v : tie.Need-overflow_add-v invariant-loop decreases-loop
 add-v c =
-    let l = c.before.before.before.before in
-    omega (arith, seven c.before.if1.false (c.before.before.shared-slice-known.given l.loop.i).fits l.loop.weight, small l.loop.invariant)
+    let l = c in
+    omega (arith, seven c.if-b-lt128.false (c.shared_slice_known-1.given l.loop-i.i).fits l.loop-i.weight, small l.loop-i.invariant)
 
-mul-weight : tie.Need-overflow-mul-weight invariant-loop decreases-loop
-mul-weight c = omega (arith, small c.before.before.before.before.loop.invariant)
+mul-weight : tie.Need-overflow_mul-weight invariant-loop decreases-loop
+mul-weight c = omega (arith, small c.loop-i.invariant)
 
-add-i : tie.Need-overflow-add-i invariant-loop decreases-loop
+add-i : tie.Need-overflow_add-i invariant-loop decreases-loop
 add-i c = omega arith
 
-loop-less : tie.Need-loop-smaller invariant-loop decreases-loop
+loop-less : tie.Need-loop-i-smaller invariant-loop decreases-loop
 loop-less c = omega arith
 
-loop-again : tie.Need-loop-preserved invariant-loop decreases-loop
+loop-again : tie.Need-loop-i-preserved invariant-loop decreases-loop
 loop-again c =
-    let l = c.before.before.before.before in
-    let few : l.loop.i < 4 = omega arith in
-    more_byte l.loop.invariant c.before.before.before.loop-test.true c.before.if1.false (c.before.before.shared-slice-known.given l.loop.i).fits few
+    let l = c in
+    let few : l.loop-i.i < 4 = omega arith in
+    more_byte l.loop-i.invariant c.loop-i-test.true c.if-b-lt128.false (c.shared_slice_known-1.given l.loop-i.i).fits few
 
-returns-5 : tie.Need-returns-5 invariant-loop decreases-loop
-returns-5 c = sym (ap (at_most _) (ended c.before.loop.invariant c.loop-test.false) ∙ none _)
+returns-5 : tie.Need-returns invariant-loop decreases-loop
+returns-5 c = sym (ap (at_most _) (ended c.loop-i.invariant c.loop-i-test.false) ∙ none _)
 
-pub read-value-spec : {M : Type 1} → statement M
-read-value-spec =
+pub read_value_spec : {M : Type 1} → statement M
+read_value_spec =
     tie.close
     (tie.spec
     invariant-loop

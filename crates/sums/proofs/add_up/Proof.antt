@@ -18,99 +18,102 @@ use Rattle.sums.proofs.add_up.Tie as tie
 abbrev state : ℕ → ℕ → ℕ → Sum
 state at number postings = record { at = at; number = number; postings = postings }
 
-abbrev invariant-loop : tie.invariant-loop
+abbrev invariant-loop : tie.invariant-loop-p
 invariant-loop part stop p₀ n₀ postings₀ p n postings = Small (state p n postings) × Adding part stop (state p₀ n₀ postings₀) (state p n postings)
 
-abbrev decreases-loop : tie.decreases-loop
+abbrev decreases-loop : tie.decreases-loop-p
 decreases-loop part stop p₀ n₀ postings₀ p n postings = length part - p
 
-loop-holds : tie.Need-loop-init invariant-loop decreases-loop
+loop-holds : tie.Need-loop-p-init invariant-loop decreases-loop
 loop-holds c =
-    let r = c.before in
+    let r = c in
     (r.requires.2, adding_start r.args.part.now r.args.stop r.requires.0 r.args.from)
 
-decode-at-requires : tie.Need-decode-at-requires invariant-loop decreases-loop
-decode-at-requires c κs = omega (arith, c.loop-test.true, c.before.before.before.requires.0)
+decode-at-requires : tie.Need-decode_at-requires invariant-loop decreases-loop
+decode-at-requires c κs = omega (arith, c.loop-p-test.true, c.requires.0)
 
-enum_told : tie.Need-enum-told invariant-loop decreases-loop
+enum_told : tie.Need-enum_told-1 invariant-loop decreases-loop
 enum_told c = search rules
 
-enum-known-gap : tie.Need-enum-known-gap invariant-loop decreases-loop
+enum-known-gap : tie.Need-enum_known-gap invariant-loop decreases-loop
 enum-known-gap c = search rules
 
-cast-n : tie.Need-overflow-cast-n invariant-loop decreases-loop
+cast-n : tie.Need-overflow_cast-n invariant-loop decreases-loop
 cast-n c = search rules
 
 -- a posting further
-module _ (c : tie.After-known-told invariant-loop decreases-loop) where
-  abbrev v : tie.After-gap invariant-loop decreases-loop
-  v = c.before
+module _ (c : tie.In-Posting invariant-loop decreases-loop) where
+  abbrev v : tie.In-Posting invariant-loop decreases-loop
+  v = c
 
-  abbrev l : tie.At-loop invariant-loop decreases-loop
-  l = v.before.before.before.before
+
+  abbrev l : tie.At-loop-p invariant-loop decreases-loop
+  l = v.before.before.before
+
 
   abbrev r : tie.Start invariant-loop decreases-loop
   r = l.before.before
+
 
   abbrev part : List ℕ
   part = r.args.part.now
 
   abbrev gap : ℕ
-  gap = v.gap.given.0.0
+  gap = v.in-Posting.gap
 
   abbrev bytes : ℕ
-  bytes = v.gap.given.0.1.1.0
+  bytes = v.in-Posting.length
 
-  found : decoded (drop l.loop.p part) ≡ code.Posting gap v.gap.given.0.1.0 bytes
-  found = sym v.before.before.decode-at.ensures ∙ v.gap.given.1
+  found : decoded (drop l.loop-p.p part) ≡ code.Posting gap v.in-Posting.count bytes
+  found = sym v.decode_at.ensures ∙ v.in-Posting.is
 
-  in_part : l.loop.p < length part
-  in_part = omega (arith, v.before.before.before.loop-test.taken, r.pre.0)
+  in_part : l.loop-p.p < length part
+  in_part = omega (arith, v.loop-p-test.true, r.requires.0)
 
-  sizes : (gap < 4294967296) × (0 < bytes) × (l.loop.p + bytes ≤ length part)
+  sizes : (gap < 4294967296) × (0 < bytes) × (l.loop-p.p + bytes ≤ length part)
   sizes =
       let h = (decoded_held _ _ _ _ found).gap in
-      let w = decoded-within (drop l.loop.p part) found in
+      let w = decoded-within (drop l.loop-p.p part) found in
       (omega arith, w.0, omega (arith, in_part, simp length-drop at w.1))
 
-  abbrev adds : Adds part r.args.stop (state l.loop.p l.loop.n l.loop.postings)
+  abbrev adds : Adds part r.args.stop (state l.loop-p.p l.loop-p.n l.loop-p.postings)
   adds = record {
     g = gap;
-    f = v.gap.given.0.1.0;
+    f = v.in-Posting.count;
     l = bytes;
-    before_stop = v.before.before.before.loop-test.taken;
+    before_stop = v.loop-p-test.true;
     found = found;
   }
 
-add-n : tie.Need-overflow-add-n invariant-loop decreases-loop
-add-n c = omega (arith, (sizes c).0, in_part c, (l c).loop.invariant.0.number_in, (r c).requires.1)
+add-n : tie.Need-overflow_add-n invariant-loop decreases-loop
+add-n c = omega (arith, (sizes c).0, in_part c, (l c).loop-p.invariant.0.number_in, (r c).requires.1)
 
-add-p : tie.Need-overflow-add-p invariant-loop decreases-loop
+add-p : tie.Need-overflow_add-p invariant-loop decreases-loop
 add-p c = omega (arith, (sizes c).2, (r c).requires.1)
 
-add-postings : tie.Need-overflow-add-postings invariant-loop decreases-loop
-add-postings c = omega (arith, in_part c, (l c).loop.invariant.0.postings_in_lem, (r c).requires.1)
+add-postings : tie.Need-overflow_add-postings invariant-loop decreases-loop
+add-postings c = omega (arith, in_part c, (l c).loop-p.invariant.0.postings_in_lem, (r c).requires.1)
 
-loop-less : tie.Need-loop-smaller invariant-loop decreases-loop
+loop-less : tie.Need-loop-p-smaller invariant-loop decreases-loop
 loop-less c = omega (arith, (sizes c).1, in_part c)
 
-loop-again : tie.Need-loop-preserved invariant-loop decreases-loop
+loop-again : tie.Need-loop-p-preserved invariant-loop decreases-loop
 loop-again c =
-    let i = (l c).loop.invariant in (
+    let i = (l c).loop-p.invariant in (
       record { number_in = omega (arith, (sizes c).0, (sizes c).1, i.0.number_in); postings_in_lem = omega (arith, (sizes c).1, i.0.postings_in_lem) },
       adding_on (part c) (r c).args.stop i.1 (adds c),
     )
 
-returns : tie.Need-returns invariant-loop decreases-loop
-returns c = let i = c.before.loop.invariant in (adding_ends _ _ i.1 (at_stop c.loop-test.false), i.0)
+returns : tie.Need-returns-after-loop-p invariant-loop decreases-loop
+returns c = let i = c.loop-p.invariant in (adding_ends _ _ i.1 (at_stop c.loop-p-test.false), i.0)
 
-returns-2 : tie.Need-returns-2 invariant-loop decreases-loop
+returns-2 : tie.Need-returns-in-Rejected invariant-loop decreases-loop
 returns-2 c =
-    let i = c.before.before.before.before.loop.invariant in
-    (adding_ends _ _ i.1 (no_posting (sym c.before.before.decode-at.ensures ∙ c.enum_told.given.1)), i.0)
+    let i = c.loop-p.invariant in
+    (adding_ends _ _ i.1 (no_posting (sym c.decode_at.ensures ∙ c.in-Rejected.is)), i.0)
 
-pub add-up-spec : {M : Type 1} → statement M
-add-up-spec =
+pub add_up_spec : {M : Type 1} → statement M
+add_up_spec =
     tie.close
     (tie.spec
     invariant-loop

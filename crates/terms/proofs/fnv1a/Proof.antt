@@ -10,43 +10,43 @@ use Rattle.terms.proofs.Laws.{mixed_all_more}
 use Rattle.terms.proofs.fnv1a.Statement.{statement}
 use Rattle.terms.proofs.fnv1a.Tie as tie
 
-abbrev invariant-loop : tie.invariant-loop
+abbrev invariant-loop : tie.invariant-loop-i
 invariant-loop s hash₀ i₀ hash i = fnv1a s ≡ mixed_all hash (drop i s)
 
-abbrev decreases-loop : tie.decreases-loop
+abbrev decreases-loop : tie.decreases-loop-i
 decreases-loop s hash₀ i₀ hash i = length s - i
 
-loop-holds : tie.Need-loop-init invariant-loop decreases-loop
+loop-holds : tie.Need-loop-i-init invariant-loop decreases-loop
 unfolding fnv1a
 loop-holds c = refl
 
-shared-slice-read-mix : tie.Need-shared-slice-read-mix invariant-loop decreases-loop
+shared-slice-read-mix : tie.Need-bounds-s-i invariant-loop decreases-loop
 shared-slice-read-mix c = search rules
 
-mix-requires : tie.Need-mix-requires invariant-loop decreases-loop
+mix-requires : tie.Need-mix-hash-requires invariant-loop decreases-loop
 mix-requires c κs = search rules
 
-add-i : tie.Need-overflow-add-i invariant-loop decreases-loop
+add-i : tie.Need-overflow_add-i invariant-loop decreases-loop
 add-i c = omega arith
 
-loop-less : tie.Need-loop-smaller invariant-loop decreases-loop
+loop-less : tie.Need-loop-i-smaller invariant-loop decreases-loop
 loop-less c = omega arith
 
-loop-again : tie.Need-loop-preserved invariant-loop decreases-loop
+loop-again : tie.Need-loop-i-preserved invariant-loop decreases-loop
 loop-again c =
-    let l = c.before.before.before in
-    let s = l.before.before.args.s.now in
-    l.loop.invariant ∙ mixed_all_more l.loop.hash s l.loop.i c.before.before.loop-test.true ∙ rw c.mix.ensures
+    let l = c in
+    let s = l.args.s.now in
+    l.loop-i.invariant ∙ mixed_all_more l.loop-i.hash s l.loop-i.i c.loop-i-test.true ∙ rw c.mix-hash.ensures
 
 returns : tie.Need-returns invariant-loop decreases-loop
 unfolding mixed_all
 returns c =
-    let l = c.before in
-    let s = l.before.before.args.s.now in
-    sym (l.loop.invariant ∙ rw (drop_of_length-le s c.loop-test.false))
+    let l = c in
+    let s = l.args.s.now in
+    sym (l.loop-i.invariant ∙ rw (drop_of_length-le s c.loop-i-test.false))
 
-pub fnv1a-spec : {M : Type 1} → statement M
-fnv1a-spec =
+pub fnv1a_spec : {M : Type 1} → statement M
+fnv1a_spec =
     tie.close
     (tie.spec
     invariant-loop

@@ -16,65 +16,65 @@ use Rattle.terms.proofs.Laws.{is_term-short, is_term_long, is_term-allowed, fold
 use Rattle.terms.proofs.is_term.Statement.{statement}
 use Rattle.terms.proofs.is_term.Tie as tie
 
-abbrev invariant-loop : tie.invariant-loop
+abbrev invariant-loop : tie.invariant-loop-i
 invariant-loop s t i₀ i = all allowed s ≡ all allowed (drop i s)
 
-abbrev decreases-loop : tie.decreases-loop
+abbrev decreases-loop : tie.decreases-loop-i
 decreases-loop s t i₀ i = length s - i
 
-returns : tie.Need-returns invariant-loop decreases-loop
+returns : tie.Need-returns-then-s-eq0 invariant-loop decreases-loop
 returns c =
-    let s = c.before.args.s.now in
-    ⊎_elim (λ w. sym (is_term-short s (omega arith))) (λ w. sym (is_term_long s (omega (arith, ltb-true)))) c.if1.branch
+    let s = c.args.s.now in
+    ⊎_elim (λ w. sym (is_term-short s (omega arith))) (λ w. sym (is_term_long s (omega (arith, ltb-true)))) c.if-s-eq0.branch
 
 -- the bytes are a term where all are allowed, since their number is right
-module _ (c : tie.At-loop invariant-loop decreases-loop) where
+module _ (c : tie.At-loop-i invariant-loop decreases-loop) where
   abbrev s : List ℕ
-  s = c.before.before.before.args.s.now
+  s = c.args.s.now
 
-  left : is_term s ≡ all allowed (drop c.loop.i s)
-  left = is_term-allowed s (omega (arith, c.before.before.if1.false)) (omega (arith, ltb-false)) ∙ c.loop.invariant
+  left : is_term s ≡ all allowed (drop c.loop-i.i s)
+  left = is_term-allowed s (omega (arith, c.if-s-eq0.false)) (omega (arith, ltb-false)) ∙ c.loop-i.invariant
 
-loop-holds : tie.Need-loop-init invariant-loop decreases-loop
+loop-holds : tie.Need-loop-i-init invariant-loop decreases-loop
 loop-holds c = refl
 
-shared-slice-read-if3 : tie.Need-shared-slice-read-if3 invariant-loop decreases-loop
+shared-slice-read-if3 : tie.Need-bounds-s-i invariant-loop decreases-loop
 shared-slice-read-if3 c = search rules
 
-cast-if3 : tie.Need-overflow-cast-if3 invariant-loop decreases-loop
-cast-if3 c = omega (arith, c.shared-slice-known.given c.before.before.loop.i)
+cast-if3 : tie.Need-overflow_cast-s invariant-loop decreases-loop
+cast-if3 c = omega (arith, c.shared_slice_known-1.given c.loop-i.i)
 
-array-read-if3 : tie.Need-array-read-if3 invariant-loop decreases-loop
-array-read-if3 c = omega (arith, c.shared-slice-known.given c.before.before.loop.i)
+array-read-if3 : tie.Need-bounds-table-s invariant-loop decreases-loop
+array-read-if3 c = omega (arith, c.shared_slice_known-1.given c.loop-i.i)
 
-returns-2 : tie.Need-returns-2 invariant-loop decreases-loop
+returns-2 : tie.Need-returns-then-table-s-eq0 invariant-loop decreases-loop
 unfolding table
 returns-2 c =
     let l = c.before.before.before in
-    let b = get_or (s l) l.loop.i 0 in
-    let e : fold_byte b ≡ 0 = sym (rule b (omega (arith, c.before.shared-slice-known.given l.loop.i))) ∙ c.if3.true in
-    sym (left l ∙ all_drop allowed (s l) 0 l.loop.i c.before.before.loop-test.true ∙ rw (fold_barred b e))
+    let b = get_or (s l) l.loop-i.i 0 in
+    let e : fold_byte b ≡ 0 = sym (rule b (omega (arith, c.shared_slice_known-1.given l.loop-i.i))) ∙ c.if-table-s-eq0.true in
+    sym (left l ∙ all_drop allowed (s l) 0 l.loop-i.i c.loop-i-test.true ∙ rw (fold_barred b e))
 
-add-i : tie.Need-overflow-add-i invariant-loop decreases-loop
+add-i : tie.Need-overflow_add-i invariant-loop decreases-loop
 add-i c = omega arith
 
-loop-less : tie.Need-loop-smaller invariant-loop decreases-loop
+loop-less : tie.Need-loop-i-smaller invariant-loop decreases-loop
 loop-less c = omega arith
 
-loop-again : tie.Need-loop-preserved invariant-loop decreases-loop
+loop-again : tie.Need-loop-i-preserved invariant-loop decreases-loop
 unfolding table
 loop-again c =
     let l = c.before.before.before in
-    let b = get_or (s l) l.loop.i 0 in
-    let e : get_or table b 0 ≡ fold_byte b = rule b (omega (arith, c.before.shared-slice-known.given l.loop.i)) in
-    l.loop.invariant ∙ all_drop allowed (s l) 0 l.loop.i c.before.before.loop-test.true ∙ rw (fold-allowed b (λ z. c.if3.false (e ∙ z)))
+    let b = get_or (s l) l.loop-i.i 0 in
+    let e : get_or table b 0 ≡ fold_byte b = rule b (omega (arith, c.shared_slice_known-1.given l.loop-i.i)) in
+    l.loop-i.invariant ∙ all_drop allowed (s l) 0 l.loop-i.i c.loop-i-test.true ∙ rw (fold-allowed b (λ z. c.if-table-s-eq0.false (e ∙ z)))
 
-returns-3 : tie.Need-returns-3 invariant-loop decreases-loop
+returns-3 : tie.Need-returns invariant-loop decreases-loop
 unfolding all
-returns-3 c = sym (left c.before ∙ rw (drop_of_length-le (s c.before) c.loop-test.false))
+returns-3 c = sym (left c.before ∙ rw (drop_of_length-le (s c.before) c.loop-i-test.false))
 
-pub is-term-spec : {M : Type 1} → statement M
-is-term-spec =
+pub is_term_spec : {M : Type 1} → statement M
+is_term_spec =
     tie.close
     (tie.spec
     invariant-loop

@@ -19,27 +19,27 @@ use Rattle.terms.proofs.Laws.{mixed_all_more, is_name_pos, is_name-short, is_nam
 use Rattle.terms.proofs.judge.Statement.{statement}
 use Rattle.terms.proofs.judge.Tie as tie
 
-abbrev invariant-loop : tie.invariant-loop
+abbrev invariant-loop : tie.invariant-loop-i
 invariant-loop name hash₀ least₀ i₀ hash least i =
     (i ≤ length name) × (fnv1a name ≡ mixed_all hash (drop i name)) × (all (ltb 0) name ≡ ltb 0 least && all (ltb 0) (drop i name))
 
-abbrev decreases-loop : tie.decreases-loop
+abbrev decreases-loop : tie.decreases-loop-i
 decreases-loop name hash₀ least₀ i₀ hash least i = length name - i
 
-loop-holds : tie.Need-loop-init invariant-loop decreases-loop
+loop-holds : tie.Need-loop-i-init invariant-loop decreases-loop
 unfolding fnv1a
 loop-holds c = (omega arith, refl, refl)
 
-shared-slice-read-b : tie.Need-shared-slice-read-b invariant-loop decreases-loop
+shared-slice-read-b : tie.Need-bounds-name-i invariant-loop decreases-loop
 shared-slice-read-b c = search rules
 
-mix-requires : tie.Need-mix-requires invariant-loop decreases-loop
+mix-requires : tie.Need-mix-hash-requires invariant-loop decreases-loop
 mix-requires c κs = search rules
 
-add-i : tie.Need-overflow-add-i invariant-loop decreases-loop
+add-i : tie.Need-overflow_add-i invariant-loop decreases-loop
 add-i c = search rules
 
-loop-less : tie.Need-loop-smaller invariant-loop decreases-loop
+loop-less : tie.Need-loop-i-smaller invariant-loop decreases-loop
 loop-less c = omega arith
 
 kept : (a : Bool) (b : ℕ) (r : Bool) → a && (ltb 0 b && r) ≡ (a && ltb 0 b) && r
@@ -52,15 +52,15 @@ judged m b m' (inl (h, e)) = rw (lt-ltb 0 m (omega arith), e)
 judged m b m' (inr (h, e)) =
     by-lt 0 m (λ p. rw (e, lt-ltb 0 m p, lt-ltb 0 b (omega arith))) (λ z. rw (e, le-ltb 0 m z))
 
-loop-again : tie.Need-loop-preserved invariant-loop decreases-loop
+loop-again : tie.Need-loop-i-preserved invariant-loop decreases-loop
 loop-again c =
-    let l = c.before.before.before.before in
-    let w = l.before.before.args.name.now in
-    let i = l.loop.i in
-    let h = c.before.before.before.loop-test.true in (
+    let l = c in
+    let w = l.args.name.now in
+    let i = l.loop-i.i in
+    let h = c.loop-i-test.true in (
       omega arith,
-      l.loop.invariant.1 ∙ mixed_all_more l.loop.hash w i h ∙ rw c.mix.ensures,
-      l.loop.invariant.2 ∙ ap (λ (x : Bool). ltb 0 l.loop.least && x) (all_drop (ltb 0) w 0 i h) ∙ kept (ltb 0 l.loop.least) (get_or w i 0) (all (ltb 0) (drop (i + 1) w)) ∙ ap (λ (x : Bool). x && all (ltb 0) (drop (i + 1) w)) (judged l.loop.least (get_or w i 0) c.before.if1.least (⊎_elim (λ v. inl (v.0.taken, v.1)) (λ v. inr (v.0.left, v.1)) c.before.if1.branch)),
+      l.loop-i.invariant.1 ∙ mixed_all_more l.loop-i.hash w i h ∙ rw c.mix-hash.ensures,
+      l.loop-i.invariant.2 ∙ ap (λ (x : Bool). ltb 0 l.loop-i.least && x) (all_drop (ltb 0) w 0 i h) ∙ kept (ltb 0 l.loop-i.least) (get_or w i 0) (all (ltb 0) (drop (i + 1) w)) ∙ ap (λ (x : Bool). x && all (ltb 0) (drop (i + 1) w)) (judged l.loop-i.least (get_or w i 0) c.if-b-least.least (⊎_elim (λ v. inl (v.0.taken, v.1)) (λ v. inr (v.0.left, v.1)) c.if-b-least.branch)),
     )
 
 none_left : (a : Bool) (w : List ℕ) (i : ℕ) → length w ≤ i → a && all (ltb 0) (drop i w) ≡ a
@@ -68,35 +68,35 @@ unfolding all
 none_left a w i h = rw (drop_of_length-le w h) (and-true a)
 
 -- nothing is left, so that hash and judgement are those of the whole
-module _ (l : tie.At-loop invariant-loop decreases-loop) where
+module _ (l : tie.At-loop-i invariant-loop decreases-loop) where
   abbrev w : List ℕ
-  w = l.before.before.args.name.now
+  w = l.args.name.now
 
-  whole : {t : Bool} → l.loop.i ≡ length w → is_name w ≡ t → ◌≡◌ {A = Judged} (record { term = t; hash = l.loop.hash }) (judged_as w)
+  whole : {t : Bool} → l.loop-i.i ≡ length w → is_name w ≡ t → ◌≡◌ {A = Judged} (record { term = t; hash = l.loop-i.hash }) (judged_as w)
   unfolding judged_as mixed_all
   whole e n =
-      let z : length w ≤ l.loop.i = omega arith in
-      let d : drop l.loop.i w ≡ [] = drop_of_length-le w z in
-      let h : fnv1a w ≡ l.loop.hash = l.loop.inv.1 ∙ rw d in
+      let z : length w ≤ l.loop-i.i = omega arith in
+      let d : drop l.loop-i.i w ≡ [] = drop_of_length-le w z in
+      let h : fnv1a w ≡ l.loop-i.hash = l.loop-i.invariant.1 ∙ rw d in
       rw (n, h)
 
-returns : tie.Need-returns invariant-loop decreases-loop
+returns : tie.Need-returns-then-i-eq0 invariant-loop decreases-loop
 returns c =
     let l = c.before.before in
-    let w = l.before.before.args.name.now in
-    let e : l.loop.i ≡ length w = omega arith in
-    let n : is_name w ≡ false = ⊎_elim (λ v. is_name-short w (omega arith)) (λ v. is_name_long w (omega (arith, ltb-true))) c.if2.branch in
+    let w = l.args.name.now in
+    let e : l.loop-i.i ≡ length w = omega arith in
+    let n : is_name w ≡ false = ⊎_elim (λ v. is_name-short w (omega arith)) (λ v. is_name_long w (omega (arith, ltb-true))) c.if-i-eq0.branch in
     whole l e n
 
-returns-2 : tie.Need-returns-2 invariant-loop decreases-loop
+returns-2 : tie.Need-returns invariant-loop decreases-loop
 returns-2 c =
     let l = c.before.before.before in
-    let w = l.before.before.args.name.now in
-    let e : l.loop.i ≡ length w = omega arith in
-    whole l e (is_name_pos w (omega (arith, c.before.if2.false)) (omega (arith, ltb-false)) ∙ l.loop.invariant.2 ∙ none_left (ltb 0 l.loop.least) w l.loop.i (omega arith))
+    let w = l.args.name.now in
+    let e : l.loop-i.i ≡ length w = omega arith in
+    whole l e (is_name_pos w (omega (arith, c.if-i-eq0.false)) (omega (arith, ltb-false)) ∙ l.loop-i.invariant.2 ∙ none_left (ltb 0 l.loop-i.least) w l.loop-i.i (omega arith))
 
-pub judge-spec : {M : Type 1} → statement M
-judge-spec =
+pub judge_spec : {M : Type 1} → statement M
+judge_spec =
     tie.close
     (tie.spec
     invariant-loop

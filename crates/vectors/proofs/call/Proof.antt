@@ -6,68 +6,68 @@ use borrow.Author.Rules.{rules}
 use mathlib.Core.Path.{sym}
 use lib.Seq.{length-take-le}
 
-take-report-requires : tie.Need-take-report-requires
+take-report-requires : tie.Need-take_report-taken-requires
 take-report-requires c κs = search rules
 
-print-taken-requires : tie.Need-print-taken-requires
+print-taken-requires : tie.Need-print_taken-requires
 print-taken-requires c κs = search rules
 
-array-borrow-prefix-numbers : tie.Need-array-borrow-prefix-numbers
+array-borrow-prefix-numbers : tie.Need-slice_bounds-numbers-end
 array-borrow-prefix-numbers c = search rules
 
-slice-aggregate-list-one : tie.Need-slice-aggregate-list-one
-slice-aggregate-list-one c = sym (length-take-le _ _ c.before.before.before.before.before.before.before.requires)
+slice-aggregate-list-one : tie.Need-slice_bounds-list_one-end
+slice-aggregate-list-one c = sym (length-take-le _ _ c.requires)
 
-array-borrow-prefix-counts : tie.Need-array-borrow-prefix-counts
+array-borrow-prefix-counts : tie.Need-slice_bounds-counts-end
 array-borrow-prefix-counts c = search rules
 
-slice-aggregate-list-one-2 : tie.Need-slice-aggregate-list-one-2
-slice-aggregate-list-one-2 c = sym (length-take-le _ _ c.before.before.before.before.before.before.before.before.requires)
+slice-aggregate-list-one-2 : tie.Need-slice_bounds-list_one-end-in-2
+slice-aggregate-list-one-2 c = sym (length-take-le _ _ c.requires)
 
-list-one-requires : tie.Need-list-one-requires
+list-one-requires : tie.Need-list_one-requires
 list-one-requires c κs = search rules
 
-array-borrow-prefix-numbers-2 : tie.Need-array-borrow-prefix-numbers-2
+array-borrow-prefix-numbers-2 : tie.Need-slice_bounds-numbers-end-in-3
 array-borrow-prefix-numbers-2 c = search rules
 
-slice-aggregate-list-all : tie.Need-slice-aggregate-list-all
-slice-aggregate-list-all c = sym (length-take-le _ _ c.before.before.before.before.before.before.before.requires)
+slice-aggregate-list-all : tie.Need-slice_bounds-list_all-end
+slice-aggregate-list-all c = sym (length-take-le _ _ c.requires)
 
-list-all-requires : tie.Need-list-all-requires
+list-all-requires : tie.Need-list_all-requires
 list-all-requires c κs = search rules
 
-same_length : tie.Need-same-length
+same_length : tie.Need-shape_of-arena-in-1
 same_length c = search rules
 
-same-length-2 : tie.Need-same-length-2
+same-length-2 : tie.Need-shape_of-table-in-1
 same-length-2 c = search rules
 
-returns : tie.Need-returns
+returns : tie.Need-returns-in-1
 returns c = search rules
 
-same-length-3 : tie.Need-same-length-3
+same-length-3 : tie.Need-shape_of-arena-in-2
 same-length-3 c = search rules
 
-same-length-4 : tie.Need-same-length-4
+same-length-4 : tie.Need-shape_of-table-in-2
 same-length-4 c = search rules
 
-returns-2 : tie.Need-returns-2
+returns-2 : tie.Need-returns-in-2
 returns-2 c = search rules
 
-same-length-5 : tie.Need-same-length-5
+same-length-5 : tie.Need-shape_of-arena-in-3
 same-length-5 c = search rules
 
-same-length-6 : tie.Need-same-length-6
+same-length-6 : tie.Need-shape_of-table-in-3
 same-length-6 c = search rules
 
-returns-3 : tie.Need-returns-3
+returns-3 : tie.Need-returns-in-3
 returns-3 c = search rules
 
-returns-4 : tie.Need-returns-4
+returns-4 : tie.Need-returns-in_default
 returns-4 c = search rules
 
-pub call-spec : {M : Type 1} → statement M
-call-spec =
+pub call_spec : {M : Type 1} → statement M
+call_spec =
     tie.close
     (tie.spec
     take-report-requires

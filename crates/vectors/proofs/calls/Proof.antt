@@ -7,25 +7,25 @@ use native.Mathlib.Omega.{arith}
 use mathlib.Core.Path.{sym}
 use lib.Seq.{length-take-le}
 
-returns : tie.Need-returns
+returns : tie.Need-returns-then-payload-lt5
 returns c = search rules
 
-read-pair-requires : tie.Need-read-pair-requires
+read-pair-requires : tie.Need-read_pair-blocks-requires
 read-pair-requires c κs = search rules
 
-read-pair-requires-2 : tie.Need-read-pair-requires-2
+read-pair-requires-2 : tie.Need-read_pair-entries-requires
 read-pair-requires-2 c κs = search rules
 
-shared-slice-read-wide : tie.Need-shared-slice-read-wide
+shared-slice-read-wide : tie.Need-bounds-payload-4
 shared-slice-read-wide c = search rules
 
-wide-requires : tie.Need-wide-requires
+wide-requires : tie.Need-wide-places-requires
 wide-requires c κs = search rules
 
-returns-2 : tie.Need-returns-2
+returns-2 : tie.Need-returns-then-blocks-gt24
 returns-2 c = search rules
 
-returns-3 : tie.Need-returns-3
+returns-3 : tie.Need-returns-then-entries-gt64
 returns-3 c = search rules
 
 slice-aggregate-print : tie.Need-slice-aggregate-print
@@ -34,28 +34,28 @@ slice-aggregate-print c = search rules
 print-requires : tie.Need-print-requires
 print-requires c κs = search rules
 
-print-bytes-requires : tie.Need-print-bytes-requires
+print-bytes-requires : tie.Need-print_bytes-requires
 print-bytes-requires c κs = search rules
 
-mul-bytes : tie.Need-overflow-mul-bytes
+mul-bytes : tie.Need-overflow_mul-bytes
 mul-bytes c = search rules
 
-array-borrow-prefix-arena : tie.Need-array-borrow-prefix-arena
+array-borrow-prefix-arena : tie.Need-slice_bounds-arena-end
 array-borrow-prefix-arena c = search rules
 
-slice-aggregate-calls-on : tie.Need-slice-aggregate-calls-on
+slice-aggregate-calls-on : tie.Need-slice_bounds-calls_on-end
 slice-aggregate-calls-on c = sym (length-take-le _ _ (omega arith))
 
-array-borrow-prefix-table : tie.Need-array-borrow-prefix-table
+array-borrow-prefix-table : tie.Need-slice_bounds-table-end
 array-borrow-prefix-table c = search rules
 
-slice-aggregate-calls-on-2 : tie.Need-slice-aggregate-calls-on-2
+slice-aggregate-calls-on-2 : tie.Need-slice_bounds-calls_on-end-2
 slice-aggregate-calls-on-2 c = sym (length-take-le _ _ (omega arith))
 
-calls-on-requires : tie.Need-calls-on-requires
+calls-on-requires : tie.Need-calls_on-requires
 calls-on-requires c κs = search rules
 
-returns-4 : tie.Need-returns-4
+returns-4 : tie.Need-returns
 returns-4 c = search rules
 
 pub calls_spec : {M : Type 1} → statement M

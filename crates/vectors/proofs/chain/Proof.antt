@@ -12,69 +12,69 @@ use borrow.Author.Tests.{not-false}
 use Rattle.terms.specs.Terms.{max_term}
 use Rattle.terms.proofs.Laws.{term-length}
 
-returns : tie.Need-returns
+returns : tie.Need-returns-then-payload-eq0
 returns c = search rules
 
-shared-slice-read-wide : tie.Need-shared-slice-read-wide
+shared-slice-read-wide : tie.Need-bounds-payload-0
 shared-slice-read-wide c = search rules
 
-wide-requires : tie.Need-wide-requires
+wide-requires : tie.Need-wide-from-requires
 wide-requires c κs = search rules
 
-add-from : tie.Need-overflow-add-from
+add-from : tie.Need-overflow_add-from
 add-from c = search rules
 
-add-if2 : tie.Need-overflow-add-if2
+add-if2 : tie.Need-overflow_add-from-2
 add-if2 c = search rules
 
-returns-2 : tie.Need-returns-2
+returns-2 : tie.Need-returns-then-payload-from
 returns-2 c = search rules
 
-sub-term : tie.Need-overflow-sub-term
+sub-term : tie.Need-slice_bounds-term-count
 sub-term c = search rules
 
-part-term-start : tie.Need-slice-bounds-term-start
+part-term-start : tie.Need-slice_bounds-term-start
 part-term-start c = search rules
 
-part-term-end : tie.Need-slice-bounds-term-end
+part-term-end : tie.Need-slice_bounds-term-end
 part-term-end c = search rules
 
-is-term-requires : tie.Need-is-term-requires
+is-term-requires : tie.Need-is_term-requires
 is-term-requires c κs = search rules
 
-returns-3 : tie.Need-returns-3
+returns-3 : tie.Need-returns-then-not-is_term
 returns-3 c = search rules
 
-read-word-requires : tie.Need-read-word-requires
+read-word-requires : tie.Need-read_word-number-requires
 read-word-requires c κs = search rules
 
-returns-4 : tie.Need-returns-4
+returns-4 : tie.Need-returns-then-number-eq0
 returns-4 c = search rules
 
-slice-aggregate-open-first : tie.Need-slice-aggregate-open-first
+slice-aggregate-open-first : tie.Need-slice_bounds-open_first-end
 slice-aggregate-open-first c = search rules
 
-short : (c : tie.Else3) → length (take (1 + c.before.before.before.before.wide.result - 1) (drop 1 c.before.before.before.before.before.before.before.before.args.payload.now)) ≤ max_term
+short : (c : tie.Else-not-is_term) → length (take (1 + c.wide-from.result - 1) (drop 1 c.args.payload.now)) ≤ max_term
 short c =
-    (term-length (take (1 + c.before.before.before.before.wide.result - 1) (drop 1 c.before.before.before.before.before.before.before.before.args.payload.now))
-    (sym c.before.is-term.ensures ∙ not-false _ c.if3.false)).1
+    (term-length (take (1 + c.wide-from.result - 1) (drop 1 c.args.payload.now))
+    (sym c.is_term.ensures ∙ not-false _ c.if-not-is_term.false-raw)).1
 
-add-read-word : tie.Need-overflow-add-read-word
+add-read-word : tie.Need-overflow_add-from-3
 add-read-word c = search rules
 
-read-word-requires-2 : tie.Need-read-word-requires-2
+read-word-requires-2 : tie.Need-read_word-requires
 read-word-requires-2 c κs = search rules
 
-open-first-requires : tie.Need-open-first-requires
+open-first-requires : tie.Need-open_first-requires
 open-first-requires c κs = (short c.before.before.before.before, omega arith, omega arith)
 
-slice-aggregate-put-postings : tie.Need-slice-aggregate-put-postings
+slice-aggregate-put-postings : tie.Need-slice_bounds-put_postings-end
 slice-aggregate-put-postings c = search rules
 
-add-put-postings : tie.Need-overflow-add-put-postings
+add-put-postings : tie.Need-overflow_add-from-4
 add-put-postings c = search rules
 
-put-postings-requires : tie.Need-put-postings-requires
+put-postings-requires : tie.Need-put_postings-used-requires
 put-postings-requires c κs = search rules
 
 slice-aggregate-print : tie.Need-slice-aggregate-print
@@ -83,39 +83,39 @@ slice-aggregate-print c = search rules
 print-requires : tie.Need-print-requires
 print-requires c κs = search rules
 
-print-bytes-requires : tie.Need-print-bytes-requires
+print-bytes-requires : tie.Need-print_bytes-requires
 print-bytes-requires c κs = search rules
 
-slice-aggregate-print-chain : tie.Need-slice-aggregate-print-chain
+slice-aggregate-print-chain : tie.Need-slice_bounds-print_chain-end
 slice-aggregate-print-chain c = search rules
 
-print-chain-requires : tie.Need-print-chain-requires
+print-chain-requires : tie.Need-print_chain-requires
 print-chain-requires c κs = search rules
 
-place-of-requires : tie.Need-place-of-requires
+place-of-requires : tie.Need-place_of-end-requires
 place-of-requires c κs = search rules
 
-array-share-prefix-arena : tie.Need-array-share-prefix-arena
+array-share-prefix-arena : tie.Need-slice_bounds-arena-end
 array-share-prefix-arena c = search rules
 
-slice-aggregate-print-bytes : tie.Need-slice-aggregate-print-bytes
+slice-aggregate-print-bytes : tie.Need-slice_bounds-print_bytes-end
 slice-aggregate-print-bytes c =
-    let p = c.before.before.before.before.before.before.before.before in
-    let e = c.before.place_of in
-    let h : e.result ≤ length p.put-postings.new.0 = omega (arith, e.ensures, p.put-postings.auto.0, p.before.before.before.open-first.auto.0) in
-    sym (length-take-le e.result p.put-postings.new.0 h)
+    let p = c in
+    let e = c.place_of-end in
+    let h : e.result ≤ length p.put_postings-used.new.arena = omega (arith, e.ensures, p.put_postings-used.auto.arena, p.open_first.auto.arena) in
+    sym (length-take-le e.result p.put_postings-used.new.arena h)
 
-print-bytes-requires-2 : tie.Need-print-bytes-requires-2
+print-bytes-requires-2 : tie.Need-print_bytes-requires-then-used-le24
 print-bytes-requires-2 c κs = search rules
 
-returns-5 : tie.Need-returns-5
+returns-5 : tie.Need-returns-then-used-le24
 returns-5 c = search rules
 
-returns-6 : tie.Need-returns-6
+returns-6 : tie.Need-returns-else-used-le24
 returns-6 c = search rules
 
-pub chain-spec : {M : Type 1} → statement M
-chain-spec =
+pub chain_spec : {M : Type 1} → statement M
+chain_spec =
     tie.close
     (tie.spec
     returns

@@ -11,28 +11,28 @@ use lib.Seq.{length-take-le}
 use Rattle.postings.specs.Coding.{code}
 use Rattle.postings.proofs.Laws.{length-code_le}
 
-returns : tie.Need-returns
+returns : tie.Need-returns-then-payload-ne8
 returns c = search rules
 
-read-word-requires : tie.Need-read-word-requires
+read-word-requires : tie.Need-read_word-gap-requires
 read-word-requires c κs = search rules
 
-read-word-requires-2 : tie.Need-read-word-requires-2
+read-word-requires-2 : tie.Need-read_word-count-requires
 read-word-requires-2 c κs = search rules
 
-returns-2 : tie.Need-returns-2
+returns-2 : tie.Need-returns-then-gap-eq0
 returns-2 c = search rules
 
-slice-aggregate-put-posting : tie.Need-slice-aggregate-put-posting
+slice-aggregate-put-posting : tie.Need-slice_bounds-put_posting-end
 slice-aggregate-put-posting c = search rules
 
-ten : (c : tie.After-bytes) → length (code c.before.before.before.read_word.result c.before.before.read-word2.result) ≤ 10
+ten : (c : tie.After-bytes-1) → length (code c.read_word-gap.result c.read_word-count.result) ≤ 10
 ten c =
-    let g : c.before.before.before.read_word.result < 2 ^ 32 = omega arith in
-    let f : c.before.before.read-word2.result < 2 ^ 32 = omega arith in
-    length-code_le c.before.before.before.read_word.result c.before.before.read-word2.result g f
+    let g : c.read_word-gap.result < 2 ^ 32 = omega arith in
+    let f : c.read_word-count.result < 2 ^ 32 = omega arith in
+    length-code_le c.read_word-gap.result c.read_word-count.result g f
 
-put-posting-requires : tie.Need-put-posting-requires
+put-posting-requires : tie.Need-put_posting-end-requires
 put-posting-requires c κs = (omega arith, omega (arith, ten c))
 
 slice-aggregate-print : tie.Need-slice-aggregate-print
@@ -41,31 +41,31 @@ slice-aggregate-print c = search rules
 print-requires : tie.Need-print-requires
 print-requires c κs = search rules
 
-print-word-requires : tie.Need-print-word-requires
+print-word-requires : tie.Need-print_word-requires
 print-word-requires c κs = search rules
 
-print-word-requires-2 : tie.Need-print-word-requires-2
+print-word-requires-2 : tie.Need-print_word-requires-2
 print-word-requires-2 c κs = search rules
 
-within : (c : tie.After-put-posting) → c.put-posting.result ≤ length c.put-posting.new.0
-within c = omega (arith, c.put-posting.ensures.0, c.put-posting.auto.0, ten c.before)
+within : (c : tie.After-put_posting-end) → c.put_posting-end.result ≤ length c.put_posting-end.new.s
+within c = omega (arith, c.put_posting-end.ensures.0, c.put_posting-end.auto.s, ten c.before)
 
-array-share-prefix-bytes : tie.Need-array-share-prefix-bytes
-array-share-prefix-bytes c = within c.before.before.before.before.before
+array-share-prefix-bytes : tie.Need-slice_bounds-bytes-end
+array-share-prefix-bytes c = within c.before.before.before.before.before.before
 
-slice-aggregate-print-bytes : tie.Need-slice-aggregate-print-bytes
+slice-aggregate-print-bytes : tie.Need-slice_bounds-print_bytes-end
 slice-aggregate-print-bytes c =
-    let p = c.before.before.before.before.before.before in
-    sym (length-take-le p.put-posting.result p.put-posting.new.0 (within p))
+    let p = c.before.before.before.before.before.before.before in
+    sym (length-take-le p.put_posting-end.result p.put_posting-end.new.s (within p))
 
-print-bytes-requires : tie.Need-print-bytes-requires
+print-bytes-requires : tie.Need-print_bytes-requires
 print-bytes-requires c κs = search rules
 
-returns-3 : tie.Need-returns-3
+returns-3 : tie.Need-returns
 returns-3 c = search rules
 
-pub code-spec : {M : Type 1} → statement M
-code-spec =
+pub code_spec : {M : Type 1} → statement M
+code_spec =
     tie.close
     (tie.spec
     returns

@@ -15,37 +15,37 @@ slice-aggregate-print c = search rules
 print-requires : tie.Need-print-requires
 print-requires c κs = search rules
 
-print-bytes-requires : tie.Need-print-bytes-requires
+print-bytes-requires : tie.Need-print_bytes-requires
 print-bytes-requires c κs = search rules
 
-is-term-requires : tie.Need-is-term-requires
+is-term-requires : tie.Need-is_term-requires
 is-term-requires c κs = search rules
 
 slice-aggregate-print-2 : tie.Need-slice-aggregate-print-2
 slice-aggregate-print-2 c = search rules
 
-print-requires-2 : tie.Need-print-requires-2
+print-requires-2 : tie.Need-print-requires-then-not-is_term
 print-requires-2 c κs = search rules
 
-returns : tie.Need-returns
+returns : tie.Need-returns-then-not-is_term
 returns c = search rules
 
-short : (c : tie.Else1) → length c.before.before.before.before.before.before.args.payload.now ≤ 36
+short : (c : tie.Else-not-is_term) → length c.args.payload.now ≤ 36
 short c =
-    (term-length c.before.before.before.before.before.before.args.payload.now
-    (sym c.before.is-term.ensures ∙ not-false _ c.if1.false)).1
+    (term-length c.args.payload.now
+    (sym c.is_term.ensures ∙ not-false _ c.if-not-is_term.false-raw)).1
 
-print-folded-requires : tie.Need-print-folded-requires
+print-folded-requires : tie.Need-print_folded-hash-requires
 print-folded-requires c κs = short c
 
-print-hash-requires : tie.Need-print-hash-requires
+print-hash-requires : tie.Need-print_hash-requires
 print-hash-requires c κs = search rules
 
-returns-2 : tie.Need-returns-2
+returns-2 : tie.Need-returns
 returns-2 c = search rules
 
-pub fold-spec : {M : Type 1} → statement M
-fold-spec =
+pub fold_spec : {M : Type 1} → statement M
+fold_spec =
     tie.close
     (tie.spec
     slice-aggregate-print

@@ -6,31 +6,31 @@ use Rattle.vectors.proofs.one_frame.Tie as tie
 use mathlib.Core.Path.{sym, ◌∙◌}
 use Rattle.frames.proofs.Laws.{terms_ready}
 
-check-one-requires : tie.Need-check-one-requires
+check-one-requires : tie.Need-check_one-requires
 check-one-requires c κs = search rules
 
-enum-known-n : tie.Need-enum-known-n
+enum-known-n : tie.Need-enum_known-n
 enum-known-n c = search rules
 
-print-refusal-requires : tie.Need-print-refusal-requires
+print-refusal-requires : tie.Need-print_refusal-requires
 print-refusal-requires c κs = search rules
 
-enum-known-start : tie.Need-enum-known-start
+enum-known-start : tie.Need-enum_known-start
 enum-known-start c = search rules
 
-print-query-requires : tie.Need-print-query-requires
+print-query-requires : tie.Need-print_query-requires
 print-query-requires c κs =
-    let k = c.before in
-    terms_ready 2 1 k.before.before.before.before.args.frame.now k.start.given.0.0 k.start.given.0.1.0 (sym k.before.before.check-one.ensures ∙ k.start.given.1)
+    let k = c in
+    terms_ready 2 1 k.args.frame.now k.in-Terms.start k.in-Terms.terms (sym k.check_one.ensures ∙ k.in-Terms.is)
 
-returns : tie.Need-returns
+returns : tie.Need-returns-in-Refused
 returns c = search rules
 
-returns-2 : tie.Need-returns-2
+returns-2 : tie.Need-returns-in-Terms
 returns-2 c = search rules
 
-pub one-frame-spec : {M : Type 1} → statement M
-one-frame-spec =
+pub one_frame_spec : {M : Type 1} → statement M
+one_frame_spec =
     tie.close
     (tie.spec
     check-one-requires

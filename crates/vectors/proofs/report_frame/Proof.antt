@@ -7,16 +7,16 @@ use mathlib.Core.Path.{sym, ◌∙◌}
 use native.Mathlib.Omega.{arith}
 use Rattle.frames.proofs.Laws.{lines_ready}
 
-check-report-requires : tie.Need-check-report-requires
+check-report-requires : tie.Need-check_report-requires
 check-report-requires c κs = search rules
 
-enum-known-n : tie.Need-enum-known-n
+enum-known-n : tie.Need-enum_known-n
 enum-known-n c = search rules
 
-print-refusal-requires : tie.Need-print-refusal-requires
+print-refusal-requires : tie.Need-print_refusal-requires
 print-refusal-requires c κs = search rules
 
-enum_told : tie.Need-enum-told
+enum_told : tie.Need-enum_told-1
 enum_told c = search rules
 
 slice-aggregate-print : tie.Need-slice-aggregate-print
@@ -25,20 +25,20 @@ slice-aggregate-print c = search rules
 print-requires : tie.Need-print-requires
 print-requires c κs = search rules
 
-print-fields-requires : tie.Need-print-fields-requires
+print-fields-requires : tie.Need-print_fields-requires
 print-fields-requires c κs =
-    let k = c.before.before in
-    let r = lines_ready k.before.before.before.before.args.frame.now _ (sym k.before.before.check-report.ensures ∙ k.enum_told.given.1) in
+    let k = c in
+    let r = lines_ready k.args.frame.now _ (sym k.check_report.ensures ∙ k.in-Lines.is) in
     (omega arith, r.0, r.1)
 
-returns : tie.Need-returns
+returns : tie.Need-returns-in-Refused
 returns c = search rules
 
-returns-2 : tie.Need-returns-2
+returns-2 : tie.Need-returns-in-Lines
 returns-2 c = search rules
 
-pub report-frame-spec : {M : Type 1} → statement M
-report-frame-spec =
+pub report_frame_spec : {M : Type 1} → statement M
+report_frame_spec =
     tie.close
     (tie.spec
     check-report-requires

@@ -9,37 +9,37 @@ use Prim.Native.Nat.{ℕ, ◌+◌, ◌-◌}
 use lib.ListN.{get_or, take, drop}
 use Rattle.frames.specs.Frames.{term_at, past_field}
 
-add-from : tie.Need-overflow-add-from
+add-from : tie.Need-overflow_add-from
 add-from c = search rules
 
-shared-slice-read-wide : tie.Need-shared-slice-read-wide
+shared-slice-read-wide : tie.Need-bounds-frame-at
 shared-slice-read-wide c = search rules
 
 wide-requires : tie.Need-wide-requires
 wide-requires c κs = search rules
 
-add-to : tie.Need-overflow-add-to
+add-to : tie.Need-overflow_add-to
 add-to c = search rules
 
-sub-result : tie.Need-overflow-sub-result
+sub-result : tie.Need-slice_bounds-result-count
 sub-result c = search rules
 
-part-result-start : tie.Need-slice-bounds-result-start
+part-result-start : tie.Need-slice_bounds-result-start
 part-result-start c = search rules
 
-part-result-end : tie.Need-slice-bounds-result-end
+part-result-end : tie.Need-slice_bounds-result-end
 unfolding past_field
-part-result-end c = omega (arith, c.wide.ensures.0, c.before.before.before.requires.ends)
+part-result-end c = omega (arith, c.wide.ensures.0, c.requires.ends)
 
 returns : tie.Need-returns
 unfolding term_at
 returns c =
-    let s = c.before.before.before.before.args in
-    let e : s.self.at + 1 + c.before.wide.result - (s.self.at + 1) ≡ get_or s.frame.now s.self.at 0 = omega (arith, c.before.wide.ensures.0) in
+    let s = c.args in
+    let e : s.self.at + 1 + c.wide.result - (s.self.at + 1) ≡ get_or s.frame.now s.self.at 0 = omega (arith, c.wide.ensures.0) in
     ap (λ (n : ℕ). take n (drop (s.self.at + 1) s.frame.now)) e
 
-pub term-spec : {M : Type 1} → statement M
-term-spec =
+pub term_spec : {M : Type 1} → statement M
+term_spec =
     tie.close
     (tie.spec
     add-from
