@@ -75,7 +75,7 @@ module _ {a : List ℕ} {used reports h : ℕ} {d : Head} {c : Cursor} {n : ℕ}
   broken e = w.is ∙ ap (finish d n c.number) (rest-damaged a used reports c e)
 
 -- several postings within a part
-counted_on : {a : List ℕ} {used reports h : ℕ} {d : Head} {c c' : Cursor} {n to k : ℕ} → Counted a used reports h d c n → Within a reports to c k c'
+counted_on : {a : List ℕ} {used reports h to : ℕ} {d : Head} {c c' : Cursor} {n k : ℕ} → Counted a used reports h d c n → Within a reports to c k c'
     → Counted a used reports h d c' (n + k)
 counted_on w here = rw add-zero w
 counted_on {a} {used} {reports} {n = n} w (on {k = k} v b e r) =

@@ -163,7 +163,7 @@ module _ {a : List ℕ} {k : Counters} {c₀ : Cursor} {number : ℕ} {c : Curso
   stopped e = record { passing = p; none_left = λ l n i. ahead_end p.stands e n ∙ ne_eqb c.number n (λ q. omega arith) }
 
 -- several postings of a part
-passing-within : {a : List ℕ} {k : Counters} {c₀ c c' : Cursor} {number j : ℕ} → Passing a k c₀ number c → Within a k.reports number c j c' → Passing a k c₀ number c'
+passing-within : {a : List ℕ} {k : Counters} {c₀ : Cursor} {number : ℕ} {c c' : Cursor} {j : ℕ} → Passing a k c₀ number c → Within a k.reports number c j c' → Passing a k c₀ number c'
 passing-within p here = p
 passing-within {a} {k} p (on w l e r) = passing-on (passing-within p w) l (step_here a k.used k.reports _ e ∙ r)
 

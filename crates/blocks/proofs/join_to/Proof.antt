@@ -13,8 +13,8 @@ use Rattle.blocks.specs.Fields.{link_of}
 use Rattle.blocks.proofs.Writes.{join_stored}
 
 -- the posting has at most 10 bytes
-short : (c : tie.After-from_first-gap) → length (code c.from_First.result.0 c.args.count) ≤ 10
-short c = length-code_le c.from_First.result.0 c.args.count (omega arith) (omega arith)
+short : (c : tie.After-from_first-gap) → length (code c.from_first-gap.result.0 c.args.count) ≤ 10
+short c = length-code_le c.from_first-gap.result.0 c.args.count (omega arith) (omega arith)
 
 link-of-requires : tie.Need-link_of-requires
 link-of-requires c κs = search rules
@@ -59,7 +59,7 @@ returns c =
     let g = w₁.before.before.before.before.before.before.before.before.before.before.before.before.before.before.before.before.before.before.before.before.before.before.before in
     let s = g in
     let a = s.args in
-    let e : g.from_First.result.0 ≡ a.number - link_of a.arena.now a.d.tail = rw (← g.link_of.ensures) g.from_First.ensures in
+    let e : g.from_first-gap.result.0 ≡ a.number - link_of a.arena.now a.d.tail = rw (← g.link_of.ensures) g.from_first-gap.ensures in
     rw (w.put_changing.ensures, f.put_first-end.ensures.1, f.put_first-end.ensures.0, w₂.write_word-2.ensures, w₂.place_of-2.ensures, k.clear.ensures, w₁.write_word.ensures, w₁.place_of.ensures, e)
     (join_stored a.arena.now a.h a.d a.b a.number a.count (rw (← e) (omega (arith, short g))))
 

@@ -12,8 +12,8 @@ use Rattle.postings.proofs.Laws.{length-code_le}
 use Rattle.blocks.proofs.Writes.{open_stored}
 
 -- the posting has at most 10 bytes
-short : (c : tie.After-from_first) → let count = c.args.count in length (code c.from_First.result.0 count) ≤ 10
-short c = length-code_le c.from_First.result.0 c.args.count (omega arith) (omega arith)
+short : (c : tie.After-from_first) → let count = c.args.count in length (code c.from_first.result.0 count) ≤ 10
+short c = length-code_le c.from_first.result.0 c.args.count (omega arith) (omega arith)
 
 -- the arena keeps its length
 lasting : (c : tie.After-put_name) → length c.put_name.new.arena ≡ length c.args.arena.now
@@ -73,7 +73,7 @@ returns c =
     let p = k in
     let s = p in
     let a = s.args in
-    let e : g.from_First.result.0 ≡ a.number = omega (arith, g.from_First.ensures) in
+    let e : g.from_first.result.0 ≡ a.number = omega (arith, g.from_first.ensures) in
     rw (w.put_changing.ensures, f.put_first-end.ensures.1, f.put_first-end.ensures.0, t.put_name.ensures, n.write_word.ensures, k.clear.ensures, p.place_of-at.ensures, e)
     (open_stored a.arena.now a.b a.name.now a.number a.count (rw (← e) (omega (arith, short g))))
 

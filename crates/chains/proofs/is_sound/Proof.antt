@@ -143,7 +143,7 @@ returns-7 c =
 
 -- behind it comes another
 ends : (c : tie.Else-not-ends_at invariant-loop decreases-loop) → let q = c in
-    leb 64 q.read_part-r.result.rest.at || eqb (get_or (s q.before.before.before).args.arena.now (place q.loop-last.b + q.read_part-r.result.rest.at) 0) 0 ≡ true
+    leb 64 q.read_part-r.result.rest.at || eqb (get_or q.args.arena.now (place q.loop-last.b + q.read_part-r.result.rest.at) 0) 0 ≡ true
 ends c = sym c.ends_at.ensures ∙ not-false _ c.if-not-ends_at.false-raw
 
 returns-8 : tie.Need-returns-then-used-b invariant-loop decreases-loop

@@ -133,7 +133,7 @@ module _ (k : tie.After-count invariant-loop decreases-loop) where
   bads =
       rw (← is-term j)
       (kept (l b).loop-c.bad j.judge-line.result.term q.if-not-line.bad
-      (⊎_elim (λ v. inl (v.0.taken, v.1)) (λ v. inr (v.0.left, v.1)) q.if-not-line.came))
+      (⊎_elim (λ v. inl (v.if-not-line.true-raw, v.bad-is)) (λ v. inr (v.if-not-line.false-raw, v.bad-is)) q.if-not-line.branch-raw))
 
   on : (z : Bool) → (l b).loop-c.zero || eqb (count_at (f b) (at b)) 0 ≡ z
       → Reading (f b) (set (l b).loop-c.hashes (l b).loop-c.n j.judge-line.result.hash) b.past-next.result.at ((l b).loop-c.n + 1) q.if-not-line.bad z

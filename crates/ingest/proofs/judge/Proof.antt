@@ -14,7 +14,7 @@ abbrev given : tie.Start → Memory
 given s = memory s.args.arena.now s.args.table.now s.args.k
 
 returns : tie.Need-returns-then-plan
-returns c = let s = c in sym (plan_damaged (given s) s.args.plan c.if-plan.true)
+returns c = let s = c.before.before.before in sym (plan_damaged (given s) s.args.plan c.if-plan.true)
 
 max-terms-requires : tie.Need-max_terms-requires
 max-terms-requires c κs = search rules
@@ -27,7 +27,7 @@ add-if2 c =
 returns-2 : tie.Need-returns-then-max_terms-k
 returns-2 c =
     let t = c in
-    let s = t in
+    let s = t.before.before.before.before.before.before.before in
     sym (plan_terms (given s) s.args.plan t.if-plan.false (omega (arith, c.if-max_terms-k.true, t.max_terms.ensures)))
 
 -- the terms fit

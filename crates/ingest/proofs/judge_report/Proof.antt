@@ -24,7 +24,7 @@ are-wrong-requires c κs = search rules
 
 returns : tie.Need-returns-then-are_wrong
 returns c =
-    let s = c in
+    let s = c.before.before.before.before.before.before.before.before in
     (sym (call_wrong (m s) (frame s) s.requires.0 (sym c.are_wrong.ensures ∙ c.if-are_wrong.true)), λ z. absurd (omega arith))
 
 -- past refusal 8

@@ -46,7 +46,7 @@ fits-in-requires c κs =
     let d = c.before.before in
     let a = (s d).args in
     let w = head_fine a.arena.now a.k a.h (head_of a.arena.now a.h) (tested d ∙ c.if-is_damaged.false) in
-    rw d.head_of-d.ensures (omega (arith, w.last), w.well_formed.within)
+    rw d.head_of-d.ensures (omega (arith, w.last), w.good.within)
 
 -- whether the posting fits
 module _ (c : tie.After-fits_in) where

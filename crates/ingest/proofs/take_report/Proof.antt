@@ -142,7 +142,7 @@ returns-3 : tie.Need-returns-in-Refused
 unfolding taken_of
 returns-3 c =
     let n = c in
-    let k = n in
+    let k = n.before.before.before.before.before.before.before.before.before.before in
     let r = report-refused (frame k) _ (sym n.read_report.ensures.0 ∙ n.in-Refused.is) in
     rw (c.refused.ensures, ← r.0)
     (answers (m k) (frame k) (call-frame-refused (m k) (frame k) (omega (arith, r.0, r.1))))

@@ -132,7 +132,7 @@ next-slot c =
     let l = (k c.before.before).before in
     let t = slots (s (k c.before.before)).args.table.now in
     let e = l.slots_of-t.ensures in
-    ⊎_elim (λ w. w.1 ∙ sym (next_last t l.loop-left.slot (w.0.taken ∙ e))) (λ w. w.1 ∙ sym (next_plain t l.loop-left.slot (λ q. w.0.left (q ∙ sym e)))) c.if-slot-t.branch
+    ⊎_elim (λ w. w.slot-is ∙ sym (next_last t l.loop-left.slot (w.if-slot-t.true ∙ e))) (λ w. w.slot-is ∙ sym (next_plain t l.loop-left.slot (λ q. w.if-slot-t.false (q ∙ sym e)))) c.if-slot-t.branch-raw
 
 loop-again : tie.Need-loop-left-preserved invariant-loop decreases-loop
 loop-again c =

@@ -25,7 +25,7 @@ none (Unknown s) e k = sym (hit_unknown s e)
 none Damaged e k = sym (hit_damaged e)
 
 returns : tie.Need-returns-in_default
-returns c = none c.args.found c.args.entry c.in-At.keys2
+returns c = none c.args.found c.args.entry c.in_default.in_default-own.keys2
 
 returns-2 : tie.Need-returns-then-entry-eq0
 returns-2 c =

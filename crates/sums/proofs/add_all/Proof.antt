@@ -20,7 +20,7 @@ module _ (c : tie.Joined-n-lt16) where
   part = c.args.part.now
 
   stop-in : c.if-n-lt16.stop ≤ length part
-  stop-in = ⊎_elim (λ w. omega (arith, w.1)) (λ w. omega (arith, w.0.left, w.1)) c.if-n-lt16.branch
+  stop-in = ⊎_elim (λ w. omega (arith, w.stop-is)) (λ w. omega (arith, w.if-n-lt16.false, w.stop-is)) c.if-n-lt16.branch-raw
 
 add-up-requires : tie.Need-add_up-front-requires
 add-up-requires c κs =

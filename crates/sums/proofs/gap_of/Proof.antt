@@ -21,7 +21,7 @@ add-result c = search rules
 starts : (c : tie.Joined-q-eq0) → is_second c.args.q c.args.p ≡ false
 starts c =
     let a = c.args in
-    ⊎_elim (λ w. second_past a.q a.p w.1.left) (λ w. second-behind a.q a.p (omega (arith, w.left))) c.if-q-eq0.branch
+    ⊎_elim (λ w. second_past a.q a.p w.if-p-ne0.false) (λ w. second-behind a.q a.p (omega (arith, w.if-q-eq0.false))) c.if-q-eq0.branch-raw
 
 returns-2 : tie.Need-returns-then-b-eq0
 returns-2 c = let a = c.args in sym (gap_pair a.b a.q a.p (starts c.before) c.if-b-eq0.true)

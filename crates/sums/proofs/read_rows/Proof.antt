@@ -73,7 +73,7 @@ module _ (c : tie.After-total_of) where
   marks = t.total_of-postings.ensures ∙ lanes_total (mark_at s) _ o.lanes_of-lanes.ensures.1
 
   closed : get_or s 63 0 % 4 ≡ 0 → get_or s 62 0 % 4 ≡ 0
-  closed z = ⊎_elim (λ w. w.2.left) (λ w. absurd (w.left z)) o.if-part-eq0-2.came
+  closed z = ⊎_elim (λ w. w.if-part-ne0.false) (λ w. absurd (w.if-part-eq0-2.false z)) o.if-part-eq0-2.branch-raw
 
   few : t.total_of-postings.result < 64
   few = c.if-postings-ge64.false

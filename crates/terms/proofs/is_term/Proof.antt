@@ -25,7 +25,7 @@ decreases-loop s t i₀ i = length s - i
 returns : tie.Need-returns-then-s-eq0 invariant-loop decreases-loop
 returns c =
     let s = c.args.s.now in
-    ⊎_elim (λ w. sym (is_term-short s (omega arith))) (λ w. sym (is_term_long s (omega (arith, ltb-true)))) c.if-s-eq0.branch
+    ⊎_elim (λ w. sym (is_term-short s (omega arith))) (λ w. sym (is_term_long s (omega (arith, ltb-true)))) c.then-s-eq0.branch-raw
 
 -- the bytes are a term where all are allowed, since their number is right
 module _ (c : tie.At-loop-i invariant-loop decreases-loop) where

@@ -60,7 +60,7 @@ loop-again c =
     let h = c.loop-i-test.true in (
       omega arith,
       l.loop-i.invariant.1 ∙ mixed_all_more l.loop-i.hash w i h ∙ rw c.mix-hash.ensures,
-      l.loop-i.invariant.2 ∙ ap (λ (x : Bool). ltb 0 l.loop-i.least && x) (all_drop (ltb 0) w 0 i h) ∙ kept (ltb 0 l.loop-i.least) (get_or w i 0) (all (ltb 0) (drop (i + 1) w)) ∙ ap (λ (x : Bool). x && all (ltb 0) (drop (i + 1) w)) (judged l.loop-i.least (get_or w i 0) c.if-b-least.least (⊎_elim (λ v. inl (v.0.taken, v.1)) (λ v. inr (v.0.left, v.1)) c.if-b-least.branch)),
+      l.loop-i.invariant.2 ∙ ap (λ (x : Bool). ltb 0 l.loop-i.least && x) (all_drop (ltb 0) w 0 i h) ∙ kept (ltb 0 l.loop-i.least) (get_or w i 0) (all (ltb 0) (drop (i + 1) w)) ∙ ap (λ (x : Bool). x && all (ltb 0) (drop (i + 1) w)) (judged l.loop-i.least (get_or w i 0) c.if-b-least.least (⊎_elim (λ v. inl (v.if-b-least.true, v.least-is)) (λ v. inr (v.if-b-least.false, v.least-is)) c.if-b-least.branch-raw)),
     )
 
 none_left : (a : Bool) (w : List ℕ) (i : ℕ) → length w ≤ i → a && all (ltb 0) (drop i w) ≡ a
@@ -85,7 +85,7 @@ returns c =
     let l = c.before.before in
     let w = l.args.name.now in
     let e : l.loop-i.i ≡ length w = omega arith in
-    let n : is_name w ≡ false = ⊎_elim (λ v. is_name-short w (omega arith)) (λ v. is_name_long w (omega (arith, ltb-true))) c.if-i-eq0.branch in
+    let n : is_name w ≡ false = ⊎_elim (λ v. is_name-short w (omega arith)) (λ v. is_name_long w (omega (arith, ltb-true))) c.then-i-eq0.branch-raw in
     whole l e n
 
 returns-2 : tie.Need-returns invariant-loop decreases-loop
