@@ -13,7 +13,6 @@ use Rattle.basics.proofs.Parts.{get_or-inside, get_or-snoc}
 use Rattle.blocks.specs.Fields.{block_size, link_size, place, link_of, part_start, part_of}
 use Rattle.blocks.specs.Prescribed.{Posting}
 use Rattle.chains.specs.declared.Cursor.{Cursor}
-use Rattle.chains.specs.declared.Step.TheVariants as step
 use Rattle.chains.specs.Chains.{part_end, read_at, entered, whole, onto, follow, run, at_head, bad_head, last_from, agreeing, chain_of}
 use Rattle.layout.specs.Chains.{After, Rising, none, next, Entry, coded, codes, Block, entries, Chain, blocks, block_in}
 use Rattle.layout.specs.Held.{Held, postings_of, block_no, head_no, tail_no, start_of, chain, head_for, link_at, written, block_bytes, codes_at}

@@ -15,7 +15,6 @@ use Rattle.basics.proofs.Cases.{by-lt}
 use Rattle.basics.proofs.Parts.{drop-take}
 use Rattle.postings.proofs.Laws.{decode-code, code-head, length-code_pos}
 use Rattle.blocks.specs.Fields.{block_size, place, link_of, part_of}
-use Rattle.blocks.specs.Prescribed.{Posting}
 use Rattle.chains.specs.declared.Cursor.{Cursor}
 use Rattle.chains.specs.declared.Step.TheVariants as step
 use Rattle.chains.specs.Chains.{part_end, exhausted, given, read_at, entered, next_block, step_at}

@@ -7,7 +7,7 @@ use Rattle.blocks.specs.Fields.{link_size, block_size, head_of, capacity, place}
 use Rattle.blocks.specs.Prescribed.{Posting}
 use Rattle.chains.specs.declared.Cursor.{Cursor}
 use Rattle.chains.specs.declared.Step.TheVariants as step
-use Rattle.chains.specs.Parts.{moved_to, InPart}
+use Rattle.chains.specs.Parts.{InPart}
 use Rattle.chains.specs.Chains.{Reading, part_end, exhausted, read_at, next_block, run, at_head, is_whole, chain_of, Follows}
 use Rattle.lookup.specs.declared.Found.{Found}
 use Rattle.lookup.specs.declared.Found.TheVariants as found

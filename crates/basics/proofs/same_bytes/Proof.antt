@@ -1,12 +1,11 @@
 -- `basics::same_bytes` meets its contract. As long as the words passed are equal, the slices are the same exactly when they are so from any place on
 -- that was passed; so the last four bytes may overlap those before them.
 -- Assumes nothing.
-use mathlib.Core.Path.{◌≡◌, refl, sym, ap, ◌∙◌}
+use mathlib.Core.Path.{◌≡◌, sym, ap, ◌∙◌}
 use mathlib.Core.List.{List}
 use Prim.Native.Nat.{ℕ, ◌+◌, ◌-◌, ◌≤◌, ◌<◌}
 use native.Mathlib.Omega.{arith}
 use borrow.Author.Rules.{rules}
-use lib.Dec.{eqb}
 use lib.ListN.{length, get_or, drop}
 use Rattle.basics.specs.Words.{word_at}
 use Rattle.basics.specs.Lists.{same}
@@ -42,7 +41,6 @@ loop-holds c m h =
 module _ (o : tie.At-loop-i invariant-loop decreases-loop) where
   abbrev known : tie.After-shared_slice_known-2-1 invariant-loop decreases-loop
   known = o.before.before.before
-
 
   abbrev a : List ℕ
   a = known.args.a.now

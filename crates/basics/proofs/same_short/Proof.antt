@@ -33,7 +33,6 @@ module _ (l : tie.In-loop-i invariant-loop decreases-loop) where
   abbrev s : tie.Start invariant-loop decreases-loop
   s = l.before.before
 
-
   abbrev i : ℕ
   i = l.loop-i.i
 

@@ -72,7 +72,6 @@ module _ (l : tie.At-loop-last invariant-loop decreases-loop) where
   abbrev s : tie.Start invariant-loop decreases-loop
   s = l.before.before.before.before.before.before.before
 
-
   abbrev d : Head
   d = l.head_of-d.result
 
@@ -101,10 +100,8 @@ module _ (c : tie.Else-r-last invariant-loop decreases-loop) where
   abbrev q : tie.After-read_part-r invariant-loop decreases-loop
   q = c.before.before
 
-
   abbrev l : tie.At-loop-last invariant-loop decreases-loop
   l = q.before.before.before
-
 
   read : Read (s l).args.arena.now (s l).args.used (s l).args.reports (s l).args.h (d l) l.loop-last.b l.loop-last.left l.loop-last.n q.read_part-r.result
   read = block_read l.loop-last.invariant.0 (is-end q.before) q.read_part-r.ensures c.if-r-last.false

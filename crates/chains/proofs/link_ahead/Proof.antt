@@ -1,6 +1,5 @@
 -- `chains::link_ahead` meets its contract.
 -- Assumes nothing.
-use borrow.Author.Rules.{rules}
 use borrow.Author.Tests.{lt-ltb, le-ltb}
 use native.Mathlib.Omega.{arith}
 use Rattle.chains.proofs.link_ahead.Statement.{statement}

@@ -40,7 +40,6 @@ module _ (l : tie.At-loop-p invariant-loop decreases-loop) where
   abbrev r : tie.Start invariant-loop decreases-loop
   r = l.before.before
 
-
   abbrev part : List ℕ
   part = r.args.part.now
 
@@ -77,14 +76,11 @@ module _ (c : tie.Else-reports-n invariant-loop decreases-loop) where
   abbrev v : tie.In-Posting invariant-loop decreases-loop
   v = c.before
 
-
   abbrev d : tie.After-decode_at invariant-loop decreases-loop
   d = v.before
 
-
   abbrev l : tie.At-loop-p invariant-loop decreases-loop
   l = d.before.before.before
-
 
   abbrev goes : Goes (part l) (r l).args.reports (r l).args.to (q l)
   goes = record {

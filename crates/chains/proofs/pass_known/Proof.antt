@@ -52,7 +52,6 @@ module _ (l : tie.At-loop-p invariant-loop decreases-loop) where
   abbrev r : tie.Start invariant-loop decreases-loop
   r = l.before.before
 
-
   abbrev part : List ℕ
   part = r.args.part.now
 
@@ -74,10 +73,8 @@ module _ (c : tie.In-Posting invariant-loop decreases-loop) where
   abbrev d : tie.After-decode_at invariant-loop decreases-loop
   d = c.before
 
-
   abbrev l : tie.At-loop-p invariant-loop decreases-loop
   l = d.before.before.before
-
 
   abbrev gap : ℕ
   gap = c.in-Posting.gap

@@ -51,7 +51,6 @@ module _ (c : tie.After-decode) where
   abbrev s : tie.Start
   s = c.before.before.before.before.before.before
 
-
   abbrev a : List ℕ
   a = s.args.arena.now
 
@@ -71,7 +70,6 @@ module _ (c : tie.After-decode) where
 module _ (c : tie.In-Posting) where
   abbrev m : tie.After-decode
   m = c.before
-
 
   abbrev g : ℕ
   g = c.in-Posting.gap

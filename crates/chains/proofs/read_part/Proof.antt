@@ -39,10 +39,8 @@ module _ (c : tie.After-part-1) where
   abbrev o : tie.After-place_of-start
   o = c.before
 
-
   abbrev s : tie.Start
   s = o.before.before
-
 
   abbrev part : List ℕ
   part = part_of s.args.arena.now s.args.b 0 s.args.end

@@ -22,7 +22,6 @@ module _ (c : tie.Else-capacity_of-used) where
   abbrev s : tie.Start
   s = c.before.before.before
 
-
   roomy : s.args.used ≤ capacity s.args.arena.now
   roomy = omega (arith, c.if-capacity_of-used.false, c.capacity_of.ensures)
 
@@ -52,14 +51,11 @@ module _ (c : tie.Else-place-gt64) where
   abbrev f : tie.Else-place-lt4
   f = c.before.before
 
-
   abbrev u : tie.Else-used-place
   u = f.before.before
 
-
   abbrev e : tie.Else-capacity_of-used
   e = u.before.before
-
 
 advance-requires : tie.Need-advance-requires
 advance-requires c κs =

@@ -36,7 +36,6 @@ module _ (c : tie.Else-passes_end) where
   abbrev in_head : tie.Else-head-ne0
   in_head = c.before.before.before
 
-
   long : first_term ≤ length (f in_head)
   long = c.if-frame-lt8.false
 
@@ -51,7 +50,6 @@ some-term c e = c.if-n-eq0.false (c.count_terms-n.ensures ∙ e)
 module _ (c : tie.Else-most-n) where
   abbrev in-terms : tie.Else-passes_end
   in-terms = c.before.before.before
-
 
   right : wrong_terms (m (in_head in-terms)) (f (in_head in-terms)) ≡ false
   right =

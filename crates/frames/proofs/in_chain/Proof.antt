@@ -29,7 +29,6 @@ module _ (c : tie.In-loop-at invariant-loop decreases-loop) where
   abbrev entry : tie.Start invariant-loop decreases-loop
   entry = c.before.before.before.before
 
-
   abbrev frame : List ℕ
   frame = entry.args.frame.now
 
@@ -67,7 +66,6 @@ same-bytes-requires c κs = tt
 module _ (c : tie.After-same_bytes invariant-loop decreases-loop) where
   abbrev here : tie.In-loop-at invariant-loop decreases-loop
   here = c.before.before.before
-
 
   test : same (term here) (folded_at (frame here) (at here)) ≡ c.same_bytes.result
   test = cc (c.same_bytes.ensures, c.name-in-loop-at.ensures, c.name.ensures)

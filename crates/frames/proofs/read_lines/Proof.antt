@@ -43,10 +43,8 @@ module _ (p : tie.After-past-next invariant-loop decreases-loop) where
   abbrev l : tie.At-loop-c invariant-loop decreases-loop
   l = p.before.before
 
-
   abbrev s : tie.Start invariant-loop decreases-loop
   s = l.before.before.before.before
-
 
   abbrev f : List ℕ
   f = s.args.frame.now
@@ -68,7 +66,6 @@ module _ (e : tie.Else-frame-next invariant-loop decreases-loop) where
   abbrev p : tie.After-past-next invariant-loop decreases-loop
   p = e.before
 
-
   ends : past_field count_bytes (f p) (at p) ≤ length (f p)
   ends = rw p.past-next.ensures at e.if-frame-next.false
 
@@ -85,7 +82,6 @@ judge-requires c κs = tt
 module _ (j : tie.After-judge-line invariant-loop decreases-loop) where
   abbrev e : tie.Else-frame-next invariant-loop decreases-loop
   e = j.before.before
-
 
   judged : j.judge-line.result ≡ judged_as (folded_at (f (p e)) (at (p e)))
   judged = j.judge-line.ensures ∙ ap judged_as j.name.ensures
@@ -121,10 +117,8 @@ module _ (k : tie.After-count invariant-loop decreases-loop) where
   abbrev q : tie.Joined-not-line invariant-loop decreases-loop
   q = k.before
 
-
   abbrev j : tie.After-judge-line invariant-loop decreases-loop
   j = q.before
-
 
   abbrev b : tie.After-past-next invariant-loop decreases-loop
   b = p (e j)

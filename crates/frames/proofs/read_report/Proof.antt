@@ -28,7 +28,6 @@ module _ (c : tie.Else-head-ne0) where
   abbrev s : tie.Start
   s = c.before.before.before.before.before
 
-
   abbrev f : List ℕ
   f = s.args.frame.now
 
@@ -52,7 +51,6 @@ fold-requires c κs = omega (arith, (sized c.before).short, (s c.before).require
 module _ (c : tie.After-fold) where
   abbrev past_head : tie.Else-head-ne0
   past_head = c.before.before
-
 
   folds : Folds (f past_head) c.fold.new.into
   folds = folded_front (f past_head) (s past_head).args.names.now c.fold.ensures (omega (arith, (sized past_head).short, (s past_head).requires.0))
@@ -81,10 +79,8 @@ module _ (c : tie.Else-read-ne0) where
   abbrev l : tie.After-read_lines-read
   l = c.before.before.before.before
 
-
   abbrev o : tie.After-fold
   o = l.before.before.before.before
-
 
   abbrev g : List ℕ
   g = f (past_head o)

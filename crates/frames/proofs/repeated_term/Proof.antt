@@ -32,7 +32,6 @@ module _ (c : tie.In-loop-c invariant-loop decreases-loop) where
   abbrev l : tie.At-loop-c invariant-loop decreases-loop
   l = c.before.before
 
-
   abbrev frame : List ℕ
   frame = l.args.frame.now
 
@@ -76,7 +75,6 @@ in-chain-requires c κs =
 module _ (c : tie.After-in_chain invariant-loop decreases-loop) where
   abbrev here : tie.In-loop-c invariant-loop decreases-loop
   here = c.before.before.before
-
 
   test : has_term (frame here) (term here) (chain (l here).loop-c.earlier (get_or (l here).loop-c.last (bucket (term here)) 0)) ≡ c.in_chain.result
   test = sym (c.in_chain.ensures ∙ rw (bucket-is here))

@@ -33,7 +33,6 @@ module _ (c : tie.After-head_of-d) where
   abbrev s : tie.Start
   s = c.before.before.before
 
-
   abbrev a : List ℕ
   a = s.args.arena.now
 
@@ -78,7 +77,6 @@ returns c =
 module _ (c : tie.Else-is_damaged) where
   abbrev d : tie.After-head_of-d
   d = c.before.before
-
 
   sound : damaged_head (a d) (k d) (h d) (head_of (a d) (h d)) ≡ false
   sound = tested c.before ∙ c.if-is_damaged.false
@@ -139,10 +137,8 @@ module _ (c : tie.Else-capacity_of-used) where
   abbrev t : tie.Else-fits_in
   t = c.before.before
 
-
   abbrev e : tie.Else-is_damaged
   e = t.before.before
-
 
   block : (k (d e)).used < capacity (a (d e))
   block = omega (arith, (s (d e)).requires.0.inside, c.capacity_of.ensures, c.if-capacity_of-used.false)

@@ -26,7 +26,6 @@ module _ (c : tie.Else-is_bad_head) where
   abbrev s : tie.Start
   s = c.before.before.before
 
-
   sound : bad_head s.args.d s.args.k.used s.args.h ≡ false
   sound = sym c.is_bad_head.ensures ∙ c.if-is_bad_head.false
 

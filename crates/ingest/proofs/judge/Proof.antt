@@ -35,10 +35,8 @@ module _ (c : tie.Else-max_terms-k) where
   abbrev e : tie.Else-plan
   e = c.before.before.before.before
 
-
   abbrev s : tie.Start
   s = e.before.before.before
-
 
   few : s.args.k.terms + s.args.plan.terms ≤ max_terms s.args.table.now
   few = omega (arith, c.if-max_terms-k.false, c.max_terms.ensures)

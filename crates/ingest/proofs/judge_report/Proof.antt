@@ -32,7 +32,6 @@ module _ (c : tie.Else-are_wrong) where
   abbrev s : tie.Start
   s = c.before.before.before.before.before.before.before.before
 
-
   fine : wrong_counters (m s).arena (m s).table (m s).counters ≡ false
   fine = sym c.are_wrong.ensures ∙ c.if-are_wrong.false
 

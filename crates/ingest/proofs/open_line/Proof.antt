@@ -23,7 +23,6 @@ module _ (c : tie.After-max_terms) where
   abbrev s : tie.Start
   s = c.before.before.before.before.before
 
-
   abbrev m : Memory
   m = memory s.args.arena.now s.args.table.now s.args.k
 
@@ -69,7 +68,6 @@ returns-2 c =
 module _ (c : tie.Else-capacity_of-used) where
   abbrev t : tie.After-max_terms
   t = c.before.before.before.before
-
 
   block : (m t).counters.used < capacity (m t).arena
   block = omega (arith, (s t).requires.0.inside, c.capacity_of.ensures, c.if-capacity_of-used.false)

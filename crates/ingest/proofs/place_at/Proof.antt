@@ -31,7 +31,6 @@ module _ (c : tie.After-is_damaged) where
   abbrev s : tie.Start
   s = c.before.before.before
 
-
   tested : damaged_head s.args.arena.now s.args.k s.args.h (head_of s.args.arena.now s.args.h) ≡ c.is_damaged.result
   tested = sym (rw c.head_of-d.ensures at c.is_damaged.ensures)
 
@@ -52,7 +51,6 @@ fits-in-requires c κs =
 module _ (c : tie.After-fits_in) where
   abbrev e : tie.Else-is_damaged
   e = c.before.before
-
 
   sound : let a = (s e.before).args in damaged_head a.arena.now a.k a.h (head_of a.arena.now a.h) ≡ false
   sound = tested e.before ∙ e.if-is_damaged.false

@@ -69,7 +69,6 @@ module _ (c : tie.In-loop-c invariant-loop decreases-loop) where
   abbrev l : tie.At-loop-c invariant-loop decreases-loop
   l = c.before.before
 
-
   abbrev o : tie.After-first_lengths invariant-loop decreases-loop
   o = l.before.before
 
@@ -77,10 +76,8 @@ module _ (c : tie.In-loop-c invariant-loop decreases-loop) where
   abbrev d : tie.After-first_entries invariant-loop decreases-loop
   d = o.before.before.before.before
 
-
   abbrev s : tie.Start invariant-loop decreases-loop
   s = d.before.before.before.before.before.before.before.before
-
 
   abbrev frame : List ℕ
   frame = s.args.frame.now

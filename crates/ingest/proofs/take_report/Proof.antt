@@ -44,10 +44,8 @@ module _ (c : tie.In-Lines) where
   abbrev s : tie.Start
   s = c.before.before.before.before.before.before.before.before.before
 
-
   abbrev r : tie.After-read_report
   r = c.before.before.before
-
 
   told : (report_refusal (frame s) ≡ 0) × (c.in-Lines.count ≡ length (lines (frame s)))
   told = lines-sound (frame s) _ (sym r.read_report.ensures.0 ∙ c.in-Lines.is)
@@ -90,7 +88,6 @@ returns c =
 module _ (c : tie.Else-refusal-ne0) where
   abbrev e : tie.In-Lines
   e = c.before.before.before.before.before.before
-
 
   judges : call_refusal (m (s e)) (frame (s e)) ≡ 0
   judges = sym c.judge_report-refusal.ensures.0 ∙ c.if-refusal-ne0.false

@@ -25,7 +25,6 @@ module _ (c : tie.After-find_again) where
   abbrev s : tie.Start
   s = c.before.before.before.before
 
-
   abbrev m : Memory
   m = memory s.args.arena.now s.args.table.now s.args.k
 

@@ -50,10 +50,8 @@ module _ (c : tie.In-loop-c invariant-loop decreases-loop) where
   abbrev l : tie.At-loop-c invariant-loop decreases-loop
   l = c.before.before
 
-
   abbrev s : tie.Start invariant-loop decreases-loop
   s = l.before.before.before.before.before.before.before
-
 
   abbrev frame : List ℕ
   frame = s.args.frame.now
@@ -86,7 +84,6 @@ count-requires c κs = let t = c.before.before in sound_field (l t).loop-c.invar
 module _ (n : tie.After-count-count invariant-loop decreases-loop) where
   abbrev t : tie.In-loop-c invariant-loop decreases-loop
   t = n.before.before.before
-
 
   abbrev line : Line
   line = line_of n.name-name.result.now n.count-count.result
@@ -126,10 +123,8 @@ module _ (c : tie.After-slice_known-in-loop-c-2-1 invariant-loop decreases-loop)
   abbrev w : tie.After-write_line-w invariant-loop decreases-loop
   w = c.before.before.before.before
 
-
   abbrev n : tie.After-count-count invariant-loop decreases-loop
   n = w.before.before.before.before.before
-
 
 same_length : tie.Need-shape_of-arena-then-w invariant-loop decreases-loop
 same_length c = omega (arith, c.arena-1.given, (l (t (n c.before))).loop-c.invariant.0.arena)

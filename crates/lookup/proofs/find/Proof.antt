@@ -66,7 +66,6 @@ module _ (c : tie.In-loop-left invariant-loop decreases-loop) where
   abbrev s : tie.Start invariant-loop decreases-loop
   s = c.before.before.before.before.before.before.before
 
-
   abbrev entry : ℕ
   entry = get_or s.args.table.now c.loop-left.slot 0
 
@@ -107,7 +106,6 @@ sub-t17 c = search rules
 module _ (c : tie.After-holds_name invariant-loop decreases-loop) where
   abbrev k : tie.In-loop-left invariant-loop decreases-loop
   k = c.before.before.before.before
-
 
   compared : (b : Bool) → c.holds_name.result ≡ b → sought (s k).args.arena.now (s k).args.used (s k).args.table.now (s k).args.name.now ≡ cond b (At (entry k - 1)) (rest k)
   compared b e =

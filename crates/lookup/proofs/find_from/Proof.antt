@@ -21,7 +21,6 @@ module _ (c : tie.Then-wide-n) where
   abbrev s : tie.Start
   s = c.before.before.before.before.before
 
-
   sized : s.args.stored ≡ length s.args.name.now
   sized = sym c.wide.ensures.0 ∙ c.if-wide-n.true
 

@@ -23,7 +23,6 @@ module _ (c : tie.After-fold) where
   abbrev s : tie.Start
   s = c.before.before.before.before.before
 
-
   name_is : take (length s.args.term.now) c.fold.new.into ≡ folded s.args.term.now
   name_is = folded_front s.args.term.now _ c.fold.ensures s.requires.1
 

@@ -15,7 +15,6 @@ module _ (c : tie.Else-t-eq0) where
   abbrev s : tie.Start
   s = c.before
 
-
   some : 0 < s.args.t
   some = omega (arith, c.if-t-eq0.false)
 

@@ -45,7 +45,6 @@ module _ (c : tie.Then-d-lt128) where
   abbrev r : tie.Start
   r = c.before.before.before.before.before.before.before.before
 
-
   abbrev s : List ℕ
   s = r.args.s.now
 

@@ -52,7 +52,6 @@ module _ (c : tie.After-read_value-in-Number) where
   abbrev k : tie.In-Number
   k = c.before.before.before
 
-
   again : c.read_value-in-Number.result ≡ at_most 4294967292 (value (drop (n k) (s k)))
   again =
       c.read_value-in-Number.ensures
@@ -64,7 +63,6 @@ module _ (c : tie.After-read_value-in-Number) where
 module _ (c : tie.In-Number-read_value) where
   abbrev q : tie.After-read_value-in-Number
   q = c.before
-
 
   abbrev w : ℕ
   w = c.in-Number-read_value.w

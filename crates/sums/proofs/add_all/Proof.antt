@@ -32,7 +32,6 @@ module _ (u : tie.After-add_up-front) where
   abbrev j : tie.Joined-n-lt16
   j = u.before
 
-
   in_two : (n : ℕ) → n ≡ length (part j) → added_to (part j) n u.add_up-front.result ≡ added_to (part j) (length (part j)) (sum_of j.args.at j.args.number)
   in_two n e =
       ap (λ (x : ℕ). added_to (part j) x u.add_up-front.result) e
@@ -50,10 +49,8 @@ module _ (h : tie.Then-rows) where
   abbrev w : tie.After-read_rows-rows
   w = h.before
 
-
   abbrev u : tie.After-add_up-front
   u = w.before.before.before.before
-
 
   rows : Rows (part u.before) w.read_rows-rows.result
   rows = w.read_rows-rows.ensures h.if-rows.true

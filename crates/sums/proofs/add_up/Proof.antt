@@ -46,14 +46,11 @@ module _ (c : tie.In-Posting invariant-loop decreases-loop) where
   abbrev v : tie.In-Posting invariant-loop decreases-loop
   v = c
 
-
   abbrev l : tie.At-loop-p invariant-loop decreases-loop
   l = v.before.before.before
 
-
   abbrev r : tie.Start invariant-loop decreases-loop
   r = l.before.before
-
 
   abbrev part : List ℕ
   part = r.args.part.now

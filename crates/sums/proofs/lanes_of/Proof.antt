@@ -86,7 +86,6 @@ module _ (g : tie.After-gap_of-in-loop-i invariant-loop decreases-loop) where
   abbrev l : tie.At-loop-i invariant-loop decreases-loop
   l = g.before.before.before.before.before.before.before.before.before.before.before.before
 
-
   abbrev part : List ℕ
   part = l.args.part.now
 
@@ -165,7 +164,6 @@ loop-less c = omega arith
 module _ (c : tie.After-mark_of-in-loop-i-2 invariant-loop decreases-loop) where
   abbrev e : tie.After-gap_of-in-loop-i-2 invariant-loop decreases-loop
   e = c.before.before.before
-
 
   abbrev s : List ℕ
   s = part e.before

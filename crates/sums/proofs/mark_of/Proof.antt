@@ -21,7 +21,6 @@ module _ (e : tie.Else-b-gt127) where
   abbrev a : tie.Start
   a = e.before.before
 
-
   fit : (a.args.b % 4 ≡ 0 → a.args.q % 4 ≡ 0 → 0 < a.args.p % 4) → Fit a.args.b a.args.q a.args.p
   fit f = record { low = omega (arith, e.if-b-eq0.false); high = omega (arith, e.if-b-gt127.false); not_three = f }
 

@@ -54,14 +54,11 @@ module _ (c : tie.After-total_of) where
   abbrev t : tie.After-total_of-postings
   t = c.before.before.before.before
 
-
   abbrev o : tie.After-lanes_of-lanes
   o = t.before.before.before
 
-
   abbrev e : tie.Else-part-eq0
   e = o.before.before.before
-
 
   abbrev s : List ℕ
   s = e.args.part.now
