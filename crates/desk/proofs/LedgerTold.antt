@@ -13,7 +13,7 @@ use Rattle.counters.specs.Counters.{Memory}
 use Rattle.ingest.specs.Report.{report_call}
 use Rattle.query.specs.Listing.{list_one_call, list_all_call}
 use Rattle.ledger.specs.Ledger.{Report, enter_report}
-use Rattle.ledger.specs.Calls.{Call, start, report, one-term, all-terms, Step, cleared, index_step, ledger_step, ledger_one, ledger_all, answers, frame_of, Bytes, Framed, none, one, ledger_for}
+use Rattle.ledger.specs.Calls.{Call, report, one-term, all-terms, Step, cleared, index_step, ledger_step, ledger_one, ledger_all, answers, frame_of, Bytes, Framed, none, one, ledger_for}
 use Rattle.ledger.proofs.Agree.{agree}
 use Rattle.desk.specs.declared.Kind.{Kind}
 use Rattle.desk.specs.declared.Kind.TheVariants as kind

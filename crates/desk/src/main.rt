@@ -14,7 +14,7 @@ ghost use Rattle.desk.specs.Claims.{LastRefused, TellsLedger};
 use counters::Counters;
 use frames::Report;
 use ingest::ReportAnswer;
-use libc::{STDERR_FILENO, STDIN_FILENO, STDOUT_FILENO};
+use std::io::Read;
 
 // The call that a frame's kind asks for.
 #[derive(Clone, Copy)]
@@ -428,34 +428,31 @@ fn take_turn(
 }
 
 // Reads once, behind the bytes that are held. There is room for a byte, so nothing read means the end.
-fn read_more(input: &mut [u8], held: usize) -> Piece
+fn read_more(rt: &HostRuntime, input: &mut [u8], held: usize) -> Piece
     requires { held < length input.old }
     ensures { Reads input.old held result input.new }
 {
-    let room = &mut input[held..];
-    let got = libc::read(STDIN_FILENO, room);
-    if got < 0 {
-        complain(b"desk: cannot read the frames\n");
-        return Piece::Failed;
+    match rt.stdin().read(&mut input[held..]) {
+        Ok(0) => Piece::End,
+        Ok(n) => Piece::Bytes(n),
+        Err(_) => {
+            complain(rt, "desk: cannot read the frames");
+            Piece::Failed
+        }
     }
-    let n = io::count(got, room);
-    if n == 0 {
-        return Piece::End;
-    }
-    Piece::Bytes(n)
 }
 
 // ---- the program
 
-fn complain(text: &[u8]) {
-    io::write_all(STDERR_FILENO, text);
+fn complain(rt: &impl Eprint, text: &str) {
+    let _ = rt.eprintln(text);
 }
 
 // Writes lines and tells whether that went well.
-fn print(text: &[u8]) -> bool {
-    let is_written = io::write_all(STDOUT_FILENO, text);
+fn print(rt: &(impl Print + Eprint), text: &[u8]) -> bool {
+    let is_written = rt.write_all(text).is_ok();
     if !is_written {
-        complain(b"desk: cannot write the answers\n");
+        complain(rt, "desk: cannot write the answers");
     }
     is_written
 }
@@ -469,7 +466,7 @@ fn claims_hold()
 
 // Turn after turn: the lines are written and more is read, until the input ends or a frame stops the program. A proved loop has to end, and nothing
 // says that the input does: so the turns are counted, from a number that no run uses up.
-fn main() {
+fn main(rt: HostRuntime) {
     let mut arena = [0u8; 64000];
     let mut table = [0u32; 512];
     let mut input = [0u8; 65536];
@@ -488,7 +485,7 @@ fn main() {
             &mut arena, &mut table, counters, &mut input, held, ended, &mut out,
         );
         let written = t.written;
-        if !print(&out[..written]) {
+        if !print(&rt, &out[..written]) {
             return;
         }
         let left = t.counters;
@@ -498,7 +495,7 @@ fn main() {
         match next {
             Next::Stop => return,
             Next::Settle => {}
-            Next::Read => match read_more(&mut input, held) {
+            Next::Read => match read_more(&rt, &mut input, held) {
                 Piece::Bytes(n) => held += n,
                 Piece::End => ended = true,
                 Piece::Failed => return,

@@ -2,7 +2,7 @@
 // of calls. The stored questions and the expected answers are written by the Rust reference (rust/reference), which shares no code with the functions under test.
 #![tactic(auto)]
 
-ghost use Rattle.std.specs.Prelude.{◌≡◌, false, ◌+◌, ◌<◌, ◌≤◌, length};
+ghost use Rattle.std.specs.Prelude.{IfOk, ◌≡◌, false, ◌+◌, ◌<◌, ◌≤◌, length};
 ghost use Rattle.terms.specs.Terms.{max_term};
 ghost use Rattle.frames.specs.Frames.{count_bytes, fields, passes_end, bad_term};
 
@@ -10,186 +10,188 @@ use chains::Step;
 use counters::Counters;
 use frames::{Cursor, Query, Report};
 use ingest::ReportAnswer;
-use io::{print_decimal, print_hex};
-use libc::{STDIN_FILENO, STDOUT_FILENO};
 use postings::Decoded;
 use query::ListAnswer;
+use std::io::{self, Read};
 
-fn print(text: &[u8]) {
-    io::write_all(STDOUT_FILENO, text);
+fn print(rt: &impl Print, text: &str) -> io::Result<()> {
+    print!(rt; "{text}")
 }
 
 // A space and a number.
-fn print_number(n: u64) {
-    print(b" ");
-    print_decimal(STDOUT_FILENO, n);
+fn print_number(rt: &impl Print, n: u64) -> io::Result<()> {
+    print!(rt; " {n}")
 }
 
-fn print_word(n: u32) {
-    print_number(n as u64);
+fn print_word(rt: &impl Print, n: u32) -> io::Result<()> {
+    print_number(rt, n as u64)
 }
 
 // A colon and a count.
-fn print_count(n: u32) {
-    print(b":");
-    print_decimal(STDOUT_FILENO, n as u64);
+fn print_count(rt: &impl Print, n: u32) -> io::Result<()> {
+    print!(rt; ":{n}")
 }
 
 // A space and the bytes in hexadecimal, `-` for none.
-fn print_bytes(s: &[u8]) {
-    print(b" ");
+fn print_bytes(rt: &impl Print, s: &[u8]) -> io::Result<()> {
+    print(rt, " ")?;
     if s.len() == 0 {
-        print(b"-");
+        print(rt, "-")?;
     }
-    let mut i: usize = 0;
-    while i < s.len() {
-        print_hex(STDOUT_FILENO, basics::wide(s[i]) as u64, 2);
-        i += 1;
+    for b in s {
+        print!(rt; "{b:02x}")?;
     }
+    Ok(())
 }
 
 // Eight hexadecimal digits.
-fn print_entry(n: u32) {
-    print_hex(STDOUT_FILENO, n as u64, 8);
+fn print_entry(rt: &impl Print, n: u32) -> io::Result<()> {
+    print!(rt; "{n:08x}")
 }
 
-fn print_hash(hash: u32) {
-    print(b" ");
-    print_entry(hash);
+fn print_hash(rt: &impl Print, hash: u32) -> io::Result<()> {
+    print(rt, " ")?;
+    print_entry(rt, hash)
 }
 
 // Sort 1: the hash of the bytes as they stand.
-fn hash(payload: &[u8]) {
-    print(b"fnv");
-    print_bytes(payload);
-    print_hash(terms::fnv1a(payload));
+fn hash(rt: &impl Print, payload: &[u8]) -> io::Result<()> {
+    print(rt, "fnv")?;
+    print_bytes(rt, payload)?;
+    print_hash(rt, terms::fnv1a(payload))
 }
 
 // Sort 2: the code of a posting.
-fn code(payload: &[u8]) {
+fn code(rt: &impl Print, payload: &[u8]) -> io::Result<()> {
     if payload.len() != 8 {
-        return;
+        return Ok(());
     }
     let gap = basics::read_word(payload, 0);
     let count = basics::read_word(payload, 4);
     if gap == 0 {
-        return;
+        return Ok(());
     }
     let mut bytes = [0u8; 10];
     let end = postings::put_posting(&mut bytes, 0, gap, count);
-    print(b"code");
-    print_word(gap);
-    print_word(count);
-    print_bytes(&bytes[..end]);
+    print(rt, "code")?;
+    print_word(rt, gap)?;
+    print_word(rt, count)?;
+    print_bytes(rt, &bytes[..end])
 }
 
 // Sort 3: the posting at the front of the bytes.
-fn decode(payload: &[u8]) {
-    print(b"decode");
-    print_bytes(payload);
+fn decode(rt: &impl Print, payload: &[u8]) -> io::Result<()> {
+    print(rt, "decode")?;
+    print_bytes(rt, payload)?;
     match postings::decode(payload) {
-        Decoded::Rejected => print(b" refused"),
+        Decoded::Rejected => print(rt, " refused")?,
         Decoded::Posting { gap, count, length } => {
-            print_word(gap);
-            print_word(count);
-            print_number(length as u64);
+            print_word(rt, gap)?;
+            print_word(rt, count)?;
+            print_number(rt, length as u64)?;
         }
     }
+    Ok(())
 }
 
 // Sort 4: the folded term and its hash.
-fn fold(payload: &[u8]) {
-    print(b"term");
-    print_bytes(payload);
+fn fold(rt: &impl Print, payload: &[u8]) -> io::Result<()> {
+    print(rt, "term")?;
+    print_bytes(rt, payload)?;
     if !terms::is_term(payload) {
-        print(b" refused");
-        return;
+        print(rt, " refused")?;
+        return Ok(());
     }
-    let hash = print_folded(payload);
-    print_hash(hash);
+    let hash = print_folded(rt, payload)?;
+    print_hash(rt, hash)
 }
 
 // The folded term in hexadecimal; its hash for those who print that too.
-fn print_folded(term: &[u8]) -> u32
+fn print_folded(rt: &impl Print, term: &[u8]) -> io::Result<u32>
     requires { length term.now ≤ max_term }
 {
     let mut bytes = [0u8; 36];
     let n = term.len();
     terms::fold(term, &mut bytes);
     let name = &bytes[..n];
-    print_bytes(name);
-    terms::fnv1a(name)
+    print_bytes(rt, name)?;
+    Ok(terms::fnv1a(name))
 }
 
 // The folded terms of a sound frame's fields, with their counts where they have one.
-fn print_fields(frame: &[u8], from: usize, tail: usize)
+fn print_fields(rt: &impl Print, frame: &[u8], from: usize, tail: usize) -> io::Result<()>
     requires { (tail ≤ count_bytes) × (passes_end tail frame.now from ≡ false) × (bad_term frame.now (fields tail frame.now from) ≡ false) }
 {
     let mut c = Cursor { at: from };
     while c.at < frame.len() {
-        print_folded(c.term(frame));
+        print_folded(rt, c.term(frame))?;
         if tail == 4 {
-            print_count(c.count(frame));
+            print_count(rt, c.count(frame))?;
         }
         c = c.past(frame, tail);
     }
+    Ok(())
 }
 
-fn print_refusal(n: u8) {
-    print(b" refused");
-    print_number(n as u64);
+fn print_refusal(rt: &impl Print, n: u8) -> io::Result<()> {
+    print(rt, " refused")?;
+    print_number(rt, n as u64)
 }
 
-fn report_frame(frame: &[u8]) {
+fn report_frame(rt: &impl Print, frame: &[u8]) -> io::Result<()> {
     match frames::check_report(frame) {
-        Report::Refused(n) => print_refusal(n),
+        Report::Refused(n) => print_refusal(rt, n)?,
         Report::Lines(_) => {
-            print(b" lines");
-            print_fields(frame, 4, 4);
+            print(rt, " lines")?;
+            print_fields(rt, frame, 4, 4)?;
         }
     }
+    Ok(())
 }
 
 // The start and the terms of a sound query.
-fn print_query(frame: &[u8], start: u32, first: Cursor)
+fn print_query(rt: &impl Print, frame: &[u8], start: u32, first: Cursor) -> io::Result<()>
     requires { (passes_end 0 frame.now first.at ≡ false) × (bad_term frame.now (fields 0 frame.now first.at) ≡ false) }
 {
-    print(b" start");
-    print_word(start);
-    print(b" terms");
-    print_fields(frame, first.at, 0);
+    print(rt, " start")?;
+    print_word(rt, start)?;
+    print(rt, " terms")?;
+    print_fields(rt, frame, first.at, 0)
 }
 
-fn one_frame(frame: &[u8]) {
+fn one_frame(rt: &impl Print, frame: &[u8]) -> io::Result<()> {
     match frames::check_one(frame) {
-        Query::Refused(n) => print_refusal(n),
-        Query::Terms { start, terms } => print_query(frame, start, terms),
+        Query::Refused(n) => print_refusal(rt, n)?,
+        Query::Terms { start, terms } => print_query(rt, frame, start, terms)?,
     }
+    Ok(())
 }
 
-fn all_frame(frame: &[u8]) {
+fn all_frame(rt: &impl Print, frame: &[u8]) -> io::Result<()> {
     match frames::check_all(frame) {
-        Query::Refused(n) => print_refusal(n),
-        Query::Terms { start, terms } => print_query(frame, start, terms),
+        Query::Refused(n) => print_refusal(rt, n)?,
+        Query::Terms { start, terms } => print_query(rt, frame, start, terms)?,
     }
+    Ok(())
 }
 
 // Sort 5: a frame as the call of its kind reads it.
-fn frame(payload: &[u8]) {
+fn frame(rt: &impl Print, payload: &[u8]) -> io::Result<()> {
     if payload.len() == 0 {
-        return;
+        return Ok(());
     }
     let kind = payload[0];
     let bytes = &payload[1..];
-    print(b"frame");
-    print_number(basics::wide(kind) as u64);
-    print_bytes(bytes);
+    print(rt, "frame")?;
+    print_number(rt, basics::wide(kind) as u64)?;
+    print_bytes(rt, bytes)?;
     match kind {
-        1 => report_frame(bytes),
-        2 => one_frame(bytes),
-        3 => all_frame(bytes),
-        _ => print(b" unknown"),
+        1 => report_frame(rt, bytes)?,
+        2 => one_frame(rt, bytes)?,
+        3 => all_frame(rt, bytes)?,
+        _ => print(rt, " unknown")?,
     }
+    Ok(())
 }
 
 // One posting more in the chain whose head is block 0, in an arena of 24 blocks. Returns the blocks used; nothing is written where the head is
@@ -237,7 +239,7 @@ fn put_postings(arena: &mut [u8], payload: &[u8], from: usize) -> u32
 }
 
 // The postings of the chain whose head is block 0, as a chain reader gives them.
-fn print_chain(arena: &[u8], used: u32)
+fn print_chain(rt: &impl Print, arena: &[u8], used: u32) -> io::Result<()>
     requires { (64 ≤ length arena.now) × (0 < used) }
 {
     let d = blocks::head_of(arena, 0);
@@ -250,20 +252,21 @@ fn print_chain(arena: &[u8], used: u32)
                 count,
                 next,
             } => {
-                print_word(number);
-                print_count(count);
+                print_word(rt, number)?;
+                print_count(rt, count)?;
                 place = next;
             }
             Step::End => {
-                print(b" end");
-                return;
+                print(rt, " end")?;
+                return Ok(());
             }
             Step::Damaged => {
-                print(b" damaged");
-                return;
+                print(rt, " damaged")?;
+                return Ok(());
             }
         }
     }
+    Ok(())
 }
 
 // A head for the term at block 0, with its first posting.
@@ -278,21 +281,21 @@ fn open_first(arena: &mut [u8], term: &[u8], number: u32, count: u32)
 }
 
 // Sort 6: the chain of one term, laid out in an arena of null bytes with its head at block 0.
-fn chain(payload: &[u8]) {
+fn chain(rt: &impl Print, payload: &[u8]) -> io::Result<()> {
     if payload.len() == 0 {
-        return;
+        return Ok(());
     }
     let from = 1 + basics::wide(payload[0]);
     if payload.len() < from + 8 {
-        return;
+        return Ok(());
     }
     let term = &payload[1..from];
     if !terms::is_term(term) {
-        return;
+        return Ok(());
     }
     let number = basics::read_word(payload, from);
     if number == 0 {
-        return;
+        return Ok(());
     }
     let mut arena = [0u8; 1536];
     open_first(
@@ -302,15 +305,16 @@ fn chain(payload: &[u8]) {
         basics::read_word(payload, from + 4),
     );
     let used = put_postings(&mut arena, payload, from + 8);
-    print(b"blocks");
-    print_bytes(term);
+    print(rt, "blocks")?;
+    print_bytes(rt, term)?;
     if 0 < used {
-        print_chain(&arena, used);
+        print_chain(rt, &arena, used)?;
     }
     if used <= 24 {
         let end = blocks::place_of(used);
-        print_bytes(&arena[..end]);
+        print_bytes(rt, &arena[..end])?;
     }
+    Ok(())
 }
 
 // ---- lists of calls
@@ -323,82 +327,102 @@ fn read_pair(s: &[u8], at: usize) -> usize
     basics::wide(s[at]) * 256 + basics::wide(s[at + 1])
 }
 
-fn print_refused(refusal: u8) {
-    print(b" E");
-    print_number(refusal as u64);
+fn print_refused(rt: &impl Print, refusal: u8) -> io::Result<()> {
+    print(rt, " E")?;
+    print_number(rt, refusal as u64)
 }
 
-fn print_taken(answer: ReportAnswer) {
+fn print_taken(rt: &impl Print, answer: ReportAnswer) -> io::Result<()> {
     if answer.refusal != 0 {
-        print_refused(answer.refusal);
-        return;
+        print_refused(rt, answer.refusal)?;
+        return Ok(());
     }
-    print(b" R");
-    print_word(answer.number);
+    print(rt, " R")?;
+    print_word(rt, answer.number)
 }
 
 // So many numbers, with their counts where they are asked for.
-fn print_places(numbers: &[u32], counts: &[u32], filled: usize, counted: bool)
+fn print_places(
+    rt: &impl Print,
+    numbers: &[u32],
+    counts: &[u32],
+    filled: usize,
+    counted: bool,
+) -> io::Result<()>
     requires { (filled ≤ length numbers.now) × (filled ≤ length counts.now) }
 {
-    let mut i: usize = 0;
-    while i < filled {
-        print_word(numbers[i]);
+    for i in 0..filled {
+        print_word(rt, numbers[i])?;
         if counted {
-            print_count(counts[i]);
+            print_count(rt, counts[i])?;
         }
-        i += 1;
     }
+    Ok(())
 }
 
-fn print_listed(answer: ListAnswer, numbers: &[u32], counts: &[u32], counted: bool) {
+fn print_listed(
+    rt: &impl Print,
+    answer: ListAnswer,
+    numbers: &[u32],
+    counts: &[u32],
+    counted: bool,
+) -> io::Result<()> {
     if answer.refusal != 0 {
-        print_refused(answer.refusal);
-        return;
+        print_refused(rt, answer.refusal)?;
+        return Ok(());
     }
-    print(b" Q");
-    print_word(answer.filled);
+    print(rt, " Q")?;
+    print_word(rt, answer.filled)?;
     if answer.more {
-        print(b" +");
+        print(rt, " +")?;
     } else {
-        print(b" -");
+        print(rt, " -")?;
     }
     let filled = answer.filled as usize;
     if numbers.len() < filled {
-        return;
+        return Ok(());
     }
     if counts.len() < filled {
-        return;
+        return Ok(());
     }
-    print_places(numbers, counts, filled, counted);
+    print_places(rt, numbers, counts, filled, counted)
 }
 
 fn list_one(
+    rt: &impl Print,
     arena: &[u8],
     table: &[u32],
     k: Counters,
     frame: &[u8],
     numbers: &mut [u32],
     counts: &mut [u32],
-) {
+) -> io::Result<()> {
     let answer = query::list_one(arena, table, k, frame, numbers, counts);
-    print_listed(answer, numbers, counts, true);
+    print_listed(rt, answer, numbers, counts, true)
 }
 
-fn list_all(arena: &[u8], table: &[u32], k: Counters, frame: &[u8], numbers: &mut [u32]) {
+fn list_all(
+    rt: &impl Print,
+    arena: &[u8],
+    table: &[u32],
+    k: Counters,
+    frame: &[u8],
+    numbers: &mut [u32],
+) -> io::Result<()> {
     let answer = query::list_all(arena, table, k, frame, numbers);
-    print_listed(answer, numbers, numbers, false);
+    print_listed(rt, answer, numbers, numbers, false)
 }
 
 // The call of a kind; another kind is left out.
 fn call(
+    rt: &impl Print,
     arena: &mut [u8],
     table: &mut [u32],
     k: Counters,
     kind: u8,
     frame: &[u8],
     places: usize,
-) -> Counters
+) -> io::Result<Counters>
     requires { places ≤ 256 }
 {
     let mut numbers = [0u32; 256];
@@ -406,30 +430,37 @@ fn call(
     match kind {
         1 => {
             let taken = ingest::take_report(arena, table, k, frame);
-            print_taken(taken.answer);
-            taken.counters
+            print_taken(rt, taken.answer)?;
+            Ok(taken.counters)
         }
         2 => {
             list_one(
+                rt,
                 arena,
                 table,
                 k,
                 frame,
                 &mut numbers[..places],
                 &mut counts[..places],
-            );
-            k
+            )?;
+            Ok(k)
         }
         3 => {
-            list_all(arena, table, k, frame, &mut numbers[..places]);
-            k
+            list_all(rt, arena, table, k, frame, &mut numbers[..places])?;
+            Ok(k)
         }
-        _ => k,
+        _ => Ok(k),
     }
 }
 
 // The calls from place 5 on: a null byte for a start, else the kind, two bytes of length and the frame.
-fn run_calls(arena: &mut [u8], table: &mut [u32], payload: &[u8], places: usize) -> Counters
+fn run_calls(
+    rt: &impl Print,
+    arena: &mut [u8],
+    table: &mut [u32],
+    payload: &[u8],
+    places: usize,
+) -> io::Result<Counters>
     requires { places ≤ 256 }
 {
     let mut k = Counters {
@@ -447,101 +478,128 @@ fn run_calls(arena: &mut [u8], table: &mut [u32], payload: &[u8], places: usize)
                 terms: 0,
                 reports: 0,
             };
-            print(b" S");
+            print(rt, " S")?;
             at += 1;
         } else {
             let from = at + 3;
             if payload.len() < from {
-                return k;
+                return Ok(k);
             }
             let to = from + read_pair(payload, at + 1);
             if payload.len() < to {
-                return k;
+                return Ok(k);
             }
-            k = call(arena, table, k, kind, &payload[from..to], places);
+            k = call(rt, arena, table, k, kind, &payload[from..to], places)?;
             at = to;
         }
     }
-    k
+    Ok(k)
 }
 
 // The table's entries in hexadecimal, `-` for none.
-fn print_table(table: &[u32]) {
-    print(b" ");
+fn print_table(rt: &impl Print, table: &[u32]) -> io::Result<()> {
+    print(rt, " ")?;
     if table.len() == 0 {
-        print(b"-");
+        print(rt, "-")?;
     }
-    let mut i: usize = 0;
-    while i < table.len() {
-        print_entry(table[i]);
-        i += 1;
+    for entry in table {
+        print_entry(rt, *entry)?;
     }
+    Ok(())
 }
 
-fn calls_on(arena: &mut [u8], table: &mut [u32], payload: &[u8], places: usize)
+fn calls_on(
+    rt: &impl Print,
+    arena: &mut [u8],
+    table: &mut [u32],
+    payload: &[u8],
+    places: usize,
+) -> io::Result<()>
     requires { places ≤ 256 }
 {
-    let k = run_calls(arena, table, payload, places);
-    print(b" |");
-    print_word(k.used);
-    print_word(k.terms);
-    print_word(k.reports);
-    print_table(table);
-    print_bytes(arena);
+    let k = run_calls(rt, arena, table, payload, places)?;
+    print(rt, " |")?;
+    print_word(rt, k.used)?;
+    print_word(rt, k.terms)?;
+    print_word(rt, k.reports)?;
+    print_table(rt, table)?;
+    print_bytes(rt, arena)
 }
 
 // Sort 7: a list of calls on null memory of the given sizes, and the counters, table and arena that it leaves.
-fn calls(payload: &[u8]) {
+fn calls(rt: &impl Print, payload: &[u8]) -> io::Result<()> {
     if payload.len() < 5 {
-        return;
+        return Ok(());
     }
     let blocks = read_pair(payload, 0);
     let entries = read_pair(payload, 2);
     let places = basics::wide(payload[4]);
     if 24 < blocks {
-        return;
+        return Ok(());
     }
     if 64 < entries {
-        return;
+        return Ok(());
     }
-    print(b"calls");
-    print_bytes(payload);
+    print(rt, "calls")?;
+    print_bytes(rt, payload)?;
     let mut arena = [0u8; 1536];
     let mut table = [0u32; 64];
     let bytes = blocks * 64;
-    calls_on(&mut arena[..bytes], &mut table[..entries], payload, places);
+    calls_on(
+        rt,
+        &mut arena[..bytes],
+        &mut table[..entries],
+        payload,
+        places,
+    )
 }
 
-fn answer(sort: u8, payload: &[u8]) {
+fn answer(rt: &impl Print, sort: u8, payload: &[u8]) -> io::Result<()> {
     match sort {
-        1 => hash(payload),
-        2 => code(payload),
-        3 => decode(payload),
-        4 => fold(payload),
-        5 => frame(payload),
-        6 => chain(payload),
-        7 => calls(payload),
-        _ => print(b"unknown"),
+        1 => hash(rt, payload)?,
+        2 => code(rt, payload)?,
+        3 => decode(rt, payload)?,
+        4 => fold(rt, payload)?,
+        5 => frame(rt, payload)?,
+        6 => chain(rt, payload)?,
+        7 => calls(rt, payload)?,
+        _ => print(rt, "unknown")?,
     }
-    print(b"\n");
+    print(rt, "\n")
 }
 
 // A question: its sort, the two-byte length of its payload, the payload.
-fn answer_all(s: &[u8]) {
+fn answer_all(rt: &impl Print, s: &[u8]) -> io::Result<()> {
     let mut at: usize = 0;
     while at + 3 <= s.len() {
         let from = at + 3;
         let to = from + basics::wide(s[at + 1]) * 256 + basics::wide(s[at + 2]);
         if s.len() < to {
-            return;
+            return Ok(());
         }
-        answer(s[at], &s[from..to]);
+        answer(rt, s[at], &s[from..to])?;
         at = to;
     }
+    Ok(())
 }
 
-fn main() {
+// Fills the buffer from standard input, or up to the input's end, and tells how many bytes were read.
+fn read_full(rt: &HostRuntime, into: &mut [u8]) -> io::Result<usize>
+    ensures { IfOk result (λ n. n ≤ length into.old) }
+{
+    let mut n: usize = 0;
+    while n < into.len() {
+        let got = rt.stdin().read(&mut into[n..])?;
+        if got == 0 {
+            break;
+        }
+        n += got;
+    }
+    Ok(n)
+}
+
+fn main(rt: HostRuntime) -> io::Result<()> {
     let mut questions = [0u8; 131072];
-    let n = io::read_full(STDIN_FILENO, &mut questions);
-    answer_all(&questions[..n]);
+    let n = read_full(&rt, &mut questions)?;
+    answer_all(&rt, &questions[..n])
 }

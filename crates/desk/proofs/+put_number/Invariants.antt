@@ -1,0 +1,5 @@
+-- A number is more than its tens.
+use Rattle.desk.proofs.+put_number.Given as goal
+
+abbrev pub decreases-put_number : goal.decreases-put_number
+decreases-put_number l = l.n
