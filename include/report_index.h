@@ -1,4 +1,4 @@
-/* The exported calls of the report index. Each is proved to meet its contract (crates/index/src/lib.rt) for all bytes it can be lent.
+/* The exported calls of the report index. Each is proved to meet its contract (crates/index_c/src/lib.rt) for all bytes it can be lent.
  *
  * The caller lends all memory: an arena of bytes (64 to a block), a table of 32-bit entries, three counters, a frame, and for listings
  * 32-bit result lists. A pointer is followed by the number of elements behind it; the memory must not overlap. Nothing is kept between calls.

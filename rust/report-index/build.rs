@@ -1,7 +1,8 @@
 //! Finds the proved library, `libindex.a`, and has it linked.
 //!
 //! It is looked for in the folder that REPORT_INDEX_LIB_DIR names; where that variable is not set,
-//! in `target/staticlib` of the repository, which is where `rt staticlib index` writes it.
+//! in `target/staticlib` of the repository. The prover makes it in `crates/index_c`, and the gate copies
+//! it from there (`.ci/run`); `MAKE` is the line that does both by hand.
 
 use std::env;
 use std::path::{Path, PathBuf};
@@ -10,8 +11,12 @@ use std::process::exit;
 /// The variable that names another folder for the library.
 const FOLDER: &str = "REPORT_INDEX_LIB_DIR";
 
-/// The file that the prover writes.
+/// The file that is linked.
 const LIBRARY: &str = "libindex.a";
+
+/// What makes it, in the repository's folder.
+const MAKE: &str = "(cd crates/index_c && rt lib) && \
+    install -D -m 644 crates/index_c/out/libindex_c.a target/staticlib/libindex.a";
 
 fn main() {
     let folder = folder();
@@ -20,7 +25,8 @@ fn main() {
     println!("cargo:rerun-if-changed={}", library.display());
     if !library.is_file() {
         eprintln!("{} is missing.", library.display());
-        eprintln!("To prove and write it, run `rt staticlib index` in the repository's folder.");
+        eprintln!("To prove and make it, run this in the repository's folder:");
+        eprintln!("{MAKE}");
         eprintln!("If it stands elsewhere, set {FOLDER} to the folder that holds it.");
         exit(1);
     }

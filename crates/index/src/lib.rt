@@ -1,5 +1,5 @@
-// The outer calls of the index (document 01, "Memory lent to the index"): thin over the cores that take the counters by value. Exported for C and
-// Rust under these names; include/report_index.h documents them.
+// The outer calls of the index (document 01, "Memory lent to the index"): thin over the cores that take the counters by value. crates/index_c
+// exports them for C and Rust under these names; include/report_index.h documents them.
 #![tactic(auto)]
 
 ghost use Rattle.std.specs.Prelude.{◌≡◌, [], length, replicate};
@@ -25,8 +25,7 @@ pub fn clear_table(table: &mut [u32])
 }
 
 // Starts an index: clears the table and the counters and leaves the arena alone.
-#[unsafe(no_mangle)]
-pub extern "C" fn report_index_start(table: &mut [u32], counters: &mut Counters)
+pub fn report_index_start(table: &mut [u32], counters: &mut Counters)
     ensures { (table.new ≡ (cleared (memory [] table.old counters.old)).table)
         × (counters.new ≡ (cleared (memory [] table.old counters.old)).counters) }
 {
@@ -39,8 +38,7 @@ pub extern "C" fn report_index_start(table: &mut [u32], counters: &mut Counters)
 }
 
 // Takes a report: the refusal (0 for none) and the report's number.
-#[unsafe(no_mangle)]
-pub extern "C" fn report_index_report(
+pub fn report_index_report(
     arena: &mut [u8],
     table: &mut [u32],
     counters: &mut Counters,
@@ -57,8 +55,7 @@ pub extern "C" fn report_index_report(
 }
 
 // Lists the reports that hold one term: how many numbers and counts were filled in, and whether more remain.
-#[unsafe(no_mangle)]
-pub extern "C" fn report_index_list_one(
+pub fn report_index_list_one(
     arena: &[u8],
     table: &[u32],
     counters: &Counters,
@@ -72,8 +69,7 @@ pub extern "C" fn report_index_list_one(
 }
 
 // Lists the reports that hold all of 1 to 8 terms: how many numbers were filled in, and whether more remain.
-#[unsafe(no_mangle)]
-pub extern "C" fn report_index_list_all(
+pub fn report_index_list_all(
     arena: &[u8],
     table: &[u32],
     counters: &Counters,

@@ -1,6 +1,7 @@
 //! The desk program against the reference's desk, over drawn and hostile input.
 //!
-//! The program is the one that `rt check desk` proves and links. REPORT_INDEX_DESK may name another.
+//! The program is the one that `rt ci`, or `rt run` in `crates/desk`, proves and links. REPORT_INDEX_DESK
+//! may name another.
 
 use std::env;
 use std::io::{ErrorKind, Write};
@@ -21,12 +22,12 @@ const INPUTS: u64 = 2_000;
 fn program() -> PathBuf {
     let path = match env::var_os(PROGRAM) {
         Some(path) => PathBuf::from(path),
-        None => Path::new(env!("CARGO_MANIFEST_DIR")).join("../../target/bin/desk"),
+        None => Path::new(env!("CARGO_MANIFEST_DIR")).join("../../crates/desk/out/desk"),
     };
     assert!(
         path.is_file(),
-        "{} is missing. To prove and link it, run `rt check desk` in the repository's folder; \
-         if it stands elsewhere, set {PROGRAM} to it.",
+        "{} is missing. To prove and link it, run `rt run < /dev/null` in crates/desk; if it stands \
+         elsewhere, set {PROGRAM} to it.",
         path.display()
     );
     path
