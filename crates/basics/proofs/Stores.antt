@@ -64,20 +64,20 @@ module _ {A : Type 0} where
 
   -- ---- what is read after a store: elsewhere what was there, and there what was stored
 
-  pub get_d_sets_before : (s : List A) (i : ℕ) (a : List A) (k : ℕ) (d : A) → k < i → get_or (sets s i a) k d ≡ get_or s k d
-  get_d_sets_before s i [] k d h = refl
-  get_d_sets_before s i (x ∷ a) k d h =
-      get_d_sets_before (set s i x) (suc i) a k d (omega arith) ∙ get_or-set_other s i k x d (λ e. omega arith)
+  pub get_or-sets_before : (s : List A) (i : ℕ) (a : List A) (k : ℕ) (d : A) → k < i → get_or (sets s i a) k d ≡ get_or s k d
+  get_or-sets_before s i [] k d h = refl
+  get_or-sets_before s i (x ∷ a) k d h =
+      get_or-sets_before (set s i x) (suc i) a k d (omega arith) ∙ get_or-set_other s i k x d (λ e. omega arith)
 
   pub get_or-sets_after : (s : List A) (i : ℕ) (a : List A) (k : ℕ) (d : A) → i + length a ≤ k → get_or (sets s i a) k d ≡ get_or s k d
   get_or-sets_after s i [] k d h = refl
   get_or-sets_after s i (x ∷ a) k d h =
       get_or-sets_after (set s i x) (suc i) a k d (omega arith) ∙ get_or-set_other s i k x d (λ e. omega arith)
 
-  pub get_d_sets : (s : List A) (i : ℕ) (a : List A) (k : ℕ) (d : A) → k < length a → i + k < length s → get_or (sets s i a) (i + k) d ≡ get_or a k d
-  get_d_sets s i [] k d h l = absurd (omega arith)
-  get_d_sets s i (x ∷ a) zero d h l =
-      rw add-zero (get_d_sets_before (set s i x) (suc i) a i d (omega arith) ∙ get_or-set_same s i x d (omega arith))
-  get_d_sets s i (x ∷ a) (suc k) d h l =
+  pub get_or-sets : (s : List A) (i : ℕ) (a : List A) (k : ℕ) (d : A) → k < length a → i + k < length s → get_or (sets s i a) (i + k) d ≡ get_or a k d
+  get_or-sets s i [] k d h l = absurd (omega arith)
+  get_or-sets s i (x ∷ a) zero d h l =
+      rw add-zero (get_or-sets_before (set s i x) (suc i) a i d (omega arith) ∙ get_or-set_same s i x d (omega arith))
+  get_or-sets s i (x ∷ a) (suc k) d h l =
       let e : i + suc k ≡ suc i + k = omega arith in
-      rw e (get_d_sets (set s i x) (suc i) a k d (omega arith) (simp length-set (omega arith)))
+      rw e (get_or-sets (set s i x) (suc i) a k d (omega arith) (simp length-set (omega arith)))

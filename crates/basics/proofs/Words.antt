@@ -15,7 +15,7 @@ use Rattle.basics.specs.Words.{word, word_at}
 use Rattle.basics.specs.Lists.{same}
 use Rattle.basics.proofs.Cases.{by-eq}
 use Rattle.basics.proofs.Lists.{same_drop, ne_same}
-use Rattle.basics.proofs.Stores.{get_d_sets, get_d_sets_before, get_or-sets_after}
+use Rattle.basics.proofs.Stores.{get_or-sets, get_or-sets_before, get_or-sets_after}
 
 -- a number takes four bytes
 pub length-word : (n : ℕ) → length (word n) ≡ 4
@@ -43,10 +43,10 @@ pub word_at-before : (s : List ℕ) (i : ℕ) (a : List ℕ) (at : ℕ) → at +
 unfolding word_at
 word_at-before s i a at h =
     rw (
-      get_d_sets_before s i a at 0 (omega arith),
-      get_d_sets_before s i a (at + 1) 0 (omega arith),
-      get_d_sets_before s i a (at + 2) 0 (omega arith),
-      get_d_sets_before s i a (at + 3) 0 (omega arith),
+      get_or-sets_before s i a at 0 (omega arith),
+      get_or-sets_before s i a (at + 1) 0 (omega arith),
+      get_or-sets_before s i a (at + 2) 0 (omega arith),
+      get_or-sets_before s i a (at + 3) 0 (omega arith),
     )
 
 pub word_at_after : (s : List ℕ) (i : ℕ) (a : List ℕ) (at : ℕ) → i + length a ≤ at → word_at (sets s i a) at ≡ word_at s at
@@ -65,10 +65,10 @@ unfolding word_at
 word_at-within s i a k h l =
     simp (
       add_assoc,
-      get_d_sets s i a k 0 (omega arith) (omega arith),
-      get_d_sets s i a (k + 1) 0 (omega arith) (omega arith),
-      get_d_sets s i a (k + 2) 0 (omega arith) (omega arith),
-      get_d_sets s i a (k + 3) 0 (omega arith) (omega arith),
+      get_or-sets s i a k 0 (omega arith) (omega arith),
+      get_or-sets s i a (k + 1) 0 (omega arith) (omega arith),
+      get_or-sets s i a (k + 2) 0 (omega arith) (omega arith),
+      get_or-sets s i a (k + 3) 0 (omega arith) (omega arith),
     )
 
 -- a number stored is read back

@@ -11,7 +11,7 @@ use lib.Seq.{sets, length-sets}
 use Rattle.basics.specs.Words.{word}
 use Rattle.basics.proofs.Cases.{by-lt, by-eq}
 use Rattle.basics.proofs.Parts.{take-before, drop-behind, drop-sets}
-use Rattle.basics.proofs.Stores.{get_d_sets_before, get_or-sets_after}
+use Rattle.basics.proofs.Stores.{get_or-sets_before, get_or-sets_after}
 use Rattle.basics.proofs.Words.{length-word}
 use Rattle.terms.specs.Terms.{max_term}
 use Rattle.postings.specs.Coding.{code}
@@ -57,7 +57,7 @@ module _ {a : List ℕ} {b : ℕ} {w : List ℕ} (r : Named a b w) where
             let i = p - q in
             let n = named_length r in
             let e : p ≡ q + i = omega arith in
-            rw (get_d_sets_before a p s (place b + 17) 0 (omega arith), e, drop-sets q a i s, take-before (get_or a (place b + 17) 0) (drop q a) i s (omega arith))
+            rw (get_or-sets_before a p s (place b + 17) 0 (omega arith), e, drop-sets q a i s, take-before (get_or a (place b + 17) 0) (drop q a) i s (omega arith))
 
   -- into another block
   pub named_other : (c o : ℕ) (s : List ℕ) → (c ≡ b → ⊥) → o + length s ≤ block_size → Named (sets a (place c + o) s) b w

@@ -1,5 +1,5 @@
 // The desk program (document 01, "The desk program"): reads frames from standard input and writes one line for each. The lines for a whole input are
-// `deskOutput` of specs/Desk.antt; the functions here are proved against it up to the calls that read and write.
+// `desk_output` of specs/Desk.antt; the functions here are proved against it up to the calls that read and write.
 #![tactic(auto)]
 
 ghost use Rattle.std.specs.Prelude.{◌≡◌, ◌+◌, ◌-◌, ◌*◌, ◌≤◌, ◌<◌, [], ◌∷◌, length, get_or, take, drop};

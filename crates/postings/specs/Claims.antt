@@ -5,7 +5,7 @@ use Rattle.postings.specs.Coding.{max_gap, max_count, code, decoded}
 
 pub record RoundTrips : Type 0 where
   -- a coded posting with anything behind it is decoded, in all of its bytes and no other
-  pub decode-code :
+  pub decode_code :
       (g f : ℕ) → 1 ≤ g → g ≤ max_gap → 1 ≤ f → f ≤ max_count → (s : List ℕ)
       → decoded (code g f ++ s) ≡ Posting g f (length (code g f))
   -- what decoding took are exactly the bytes that coding gives
