@@ -128,6 +128,9 @@ def clauses(text, rows):
 
 
 def main(argv):
+    if argv not in ([], ["--check"]):
+        print(__doc__)
+        raise SystemExit(2)
     root = os.getcwd()
     rows, names = table(root)
     made = {}
