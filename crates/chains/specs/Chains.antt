@@ -1,14 +1,14 @@
 -- Reading a chain of blocks (document 01, "Blocks"; its damage as "Where each refusal is checked" lists it for listing).
-use Rattle.std.specs.Prelude.{ℕ, zero, suc, ◌+◌, ◌-◌, ◌≤◌, ◌<◌, List, [], ◌∷◌, Bool, true, false, cond, ◌&&◌, ◌||◌, ltb, leb, eqb, length, get_or}
+use Rattle.std.specs.Prelude.{ℕ, zero, suc, ◌+◌, ◌-◌, ◌≤◌, ◌<◌, List, [], ◌∷◌, Option, Some, None, Result, Ok, Err, Bool, true, false, cond, ◌&&◌, ◌||◌, ltb, leb, eqb, length, get_or}
 use Rattle.postings.specs.Coding.{decoded}
 use Rattle.postings.specs.declared.Decoded.{Decoded}
-use Rattle.postings.specs.declared.Decoded.TheVariants as code
 use Rattle.blocks.specs.declared.Head.{Head}
 use Rattle.blocks.specs.Fields.{block_size, head_fixed, link_size, capacity, place, link_of, head_of, part_start, part_of}
 use Rattle.blocks.specs.Prescribed.{Posting}
 use Rattle.chains.specs.declared.Cursor.{Cursor}
 use Rattle.chains.specs.declared.Step.{Step}
-use Rattle.chains.specs.declared.Step.TheVariants as step
+use Rattle.refusals.specs.declared.Refusal.{Refusal}
+use Rattle.refusals.specs.declared.Refusal.TheVariants.{Damaged}
 
 -- ---- one posting after another
 -- A cursor is a place in a chain: the block and the offset in it, the last number read, the block's first number (0 before its first posting),
@@ -23,24 +23,38 @@ unfoldable pub exhausted : List ℕ → Cursor → Bool
 exhausted a c =
     cond (eqb c.block c.tail) (leb c.end c.at) (leb block_size c.at || eqb (get_or a (place c.block + c.at) 0) 0)
 
+-- what a step gives: a posting with the place behind it; the chain's end; or damage
+abbrev pub Stepped : Type 0
+Stepped = Result (Option Step) Refusal
+
+-- report n with count f, and place c behind it
+abbrev pub stepped : ℕ → ℕ → Cursor → Stepped
+stepped n f c = Ok (Some (record { number = n; count = f; next = c }))
+
+abbrev pub at_end : Stepped
+at_end = Ok None
+
+abbrev pub damage : Stepped
+damage = Err Damaged
+
 -- the posting that stands at the cursor, its gap counted from `base`: damage if there is none, or its number is not past the last one or over reports
-unfoldable pub given : ℕ → Cursor → ℕ → Decoded → Step
-given reports c base (code.Posting g f l) =
-    let n = base + g in
+unfoldable pub given : ℕ → Cursor → ℕ → Option Decoded → Stepped
+given reports c base (Some d) =
+    let n = base + d.gap in
     cond (ltb c.number n && leb n reports)
-    (step.Posting n f (record {
+    (stepped n d.count (record {
       tail = c.tail;
       end = c.end;
       block = c.block;
-      at = c.at + l;
+      at = c.at + d.length;
       number = n;
       first = cond (eqb c.first 0) n c.first;
       left = c.left;
     }))
-    step.Damaged
-given reports c base code.Rejected = step.Damaged
+    damage
+given reports c base None = damage
 
-unfoldable pub read_at : List ℕ → ℕ → Cursor → ℕ → Step
+unfoldable pub read_at : List ℕ → ℕ → Cursor → ℕ → Stepped
 read_at a reports c base = given reports c base (decoded (part_of a c.block c.at (part_end c c.block)))
 
 -- the start of block b, behind the one at the cursor
@@ -56,16 +70,16 @@ entered c b = record {
 }
 
 -- the next block: damage if it is not used, or there are more blocks than used. Its first posting carries a b-gap
-unfoldable pub next_block : List ℕ → ℕ → ℕ → Cursor → Step
+unfoldable pub next_block : List ℕ → ℕ → ℕ → Cursor → Stepped
 next_block a used reports c =
     let b = link_of a c.block in
-    cond (eqb c.left 0 || leb used b) step.Damaged (read_at a reports (entered c b) c.first)
+    cond (eqb c.left 0 || leb used b) damage (read_at a reports (entered c b) c.first)
 
 -- one step. Every other posting of a block carries a d-gap; a block without a posting is damage
-unfoldable pub step_at : List ℕ → ℕ → ℕ → Cursor → Step
+unfoldable pub step_at : List ℕ → ℕ → ℕ → Cursor → Stepped
 step_at a used reports c =
     cond (exhausted a c)
-    (cond (eqb c.first 0) step.Damaged (cond (eqb c.block c.tail) step.End (next_block a used reports c)))
+    (cond (eqb c.first 0) damage (cond (eqb c.block c.tail) at_end (next_block a used reports c)))
     (read_at a reports c c.number)
 
 -- a place in a used block of the arena, with a write offset that lies in a block
@@ -73,8 +87,8 @@ unfoldable pub is_place : List ℕ → ℕ → Cursor → Bool
 is_place a used c = leb used (capacity a) && (ltb c.block used && (leb link_size c.end && leb c.end block_size))
 
 -- a step from any place; damage where it is none
-unfoldable pub step_from : List ℕ → ℕ → ℕ → Cursor → Step
-step_from a used reports c = cond (is_place a used c) (step_at a used reports c) step.Damaged
+unfoldable pub step_from : List ℕ → ℕ → ℕ → Cursor → Stepped
+step_from a used reports c = cond (is_place a used c) (step_at a used reports c) damage
 
 -- ---- a whole chain
 
@@ -87,10 +101,10 @@ onto p damaged = damaged
 onto p (whole ps) = whole (p ∷ ps)
 
 -- a posting and what is read behind it, or the end
-unfoldable pub follow : (Cursor → Reading) → Step → Reading
-follow rest (step.Posting n f c) = onto (record { number = n; count = f }) (rest c)
-follow rest step.End = whole []
-follow rest step.Damaged = damaged
+unfoldable pub follow : (Cursor → Reading) → Stepped → Reading
+follow rest (Ok (Some s)) = onto (record { number = s.number; count = s.count }) (rest s.next)
+follow rest (Ok None) = whole []
+follow rest (Err r) = damaged
 
 -- the postings from a cursor on. Numbers ascend up to reports, so more steps than reports are never needed
 unfoldable pub run : ℕ → List ℕ → ℕ → ℕ → Cursor → Reading

@@ -1,8 +1,7 @@
 -- Reading on within one block's part, posting by posting.
-use Rattle.std.specs.Prelude.{ℕ, zero, suc, ◌+◌, ◌≤◌, ◌<◌, List, cond, ◌&&◌, ltb, leb, length, drop}
+use Rattle.std.specs.Prelude.{ℕ, zero, suc, ◌+◌, ◌≤◌, ◌<◌, List, Option, Some, None, cond, ◌&&◌, ltb, leb, length, drop}
 use Rattle.postings.specs.Coding.{decoded}
 use Rattle.postings.specs.declared.Decoded.{Decoded}
-use Rattle.postings.specs.declared.Decoded.TheVariants as code
 use Rattle.sums.specs.Adding.{Bounded}
 use Rattle.blocks.specs.Fields.{block_size, place, part_of}
 use Rattle.chains.specs.declared.Cursor.{Cursor}
@@ -17,9 +16,9 @@ abbrev pub behind : Passed → ℕ → ℕ → Passed
 behind p g l = record { at = p.at + l; number = p.number + g; postings = p.postings + 1 }
 
 -- a posting whose number is at most reports is passed, and what is behind it too; no other is
-unfoldable pub onward : (Passed → Passed) → ℕ → Passed → Decoded → Passed
-onward rest reports p (code.Posting g f l) = cond (leb (p.number + g) reports) (rest (behind p g l)) p
-onward rest reports p code.Rejected = p
+unfoldable pub onward : (Passed → Passed) → ℕ → Passed → Option Decoded → Passed
+onward rest reports p (Some d) = cond (leb (p.number + d.gap) reports) (rest (behind p d.gap d.length)) p
+onward rest reports p None = p
 
 -- reading on while numbers are below `to`: to the part's end, to a number at or past `to`, or to where no posting stands that can be passed. At
 -- most `fuel` postings
@@ -32,18 +31,14 @@ pass_from (suc fuel) part reports to p =
 unfoldable pub passed : List ℕ → ℕ → ℕ → ℕ → ℕ → Passed
 passed part reports at number to = pass_from (length part) part reports to (record { at = at; number = number; postings = 0 })
 
--- no first posting
-abbrev pub unread : ℕ → PartRead
-unread at = record { first = 0; rest = record { at = at; number = 0; postings = 0 } }
+-- a whole part: its first posting, whose gap counts from `base`, and all behind it. None where no posting stands there whose number is at most reports
+unfoldable pub opened : List ℕ → ℕ → ℕ → ℕ → Option Decoded → Option PartRead
+opened part reports at base (Some d) =
+    let first = base + d.gap in
+    cond (leb first reports) (Some (record { first = first; rest = passed part reports (at + d.length) first reports })) None
+opened part reports at base None = None
 
--- a whole part: its first posting, whose gap counts from `base`, and all behind it. First number 0 where no posting stands there whose number is at
--- most reports
-unfoldable pub opened : List ℕ → ℕ → ℕ → ℕ → Decoded → PartRead
-opened part reports at base (code.Posting g f l) =
-    cond (leb (base + g) reports) (record { first = base + g; rest = passed part reports (at + l) (base + g) reports }) (unread at)
-opened part reports at base code.Rejected = unread at
-
-unfoldable pub part_read : List ℕ → ℕ → ℕ → ℕ → PartRead
+unfoldable pub part_read : List ℕ → ℕ → ℕ → ℕ → Option PartRead
 part_read part reports at base = opened part reports at base (decoded (drop at part))
 
 -- ---- with a cursor

@@ -1,14 +1,14 @@
 // Chains of blocks (document 01, "Blocks"): a cursor that gives one posting after another, and reading a whole chain for damage.
 #![tactic(auto)]
 
-ghost use Rattle.std.specs.Prelude.{◌≡◌, cond, ◌||◌, ℕ, ◌+◌, ◌≤◌, ◌<◌, ltb, leb, eqb, length, get_or};
+ghost use Rattle.std.specs.Prelude.{◌≡◌, cond, false, ◌||◌, ℕ, ◌+◌, ◌≤◌, ◌<◌, ltb, leb, eqb, length, get_or};
 ghost use Rattle.sums.specs.Adding.{Bounded};
 ghost use Rattle.blocks.specs.Fields.{max_word, block_size, place, link_of, part_of};
 ghost use Rattle.chains.specs.Chains.{part_end, exhausted, read_at, next_block, step_at, step_from, at_head, bad_head, chain_of, is_whole, Follows};
 ghost use Rattle.chains.specs.Parts.{passed, moved_to, passed_to, InPart, Known, part_read};
 
 use blocks::Head;
-use postings::Decoded;
+use refusals::Refusal;
 
 // A place in a chain: the block and the offset in it, the last number read, the block's first number (0 before its first posting), how many more
 // blocks there can be; and from the head, the tail block and the write offset there.
@@ -23,15 +23,12 @@ pub struct Cursor {
     pub left: u32,
 }
 
+// A posting of the chain: the report, the count there, and the place behind it.
 #[derive(Clone, Copy)]
-pub enum Step {
-    Posting {
-        number: u32,
-        count: u32,
-        next: Cursor,
-    },
-    End,
-    Damaged,
+pub struct Step {
+    pub number: u32,
+    pub count: u32,
+    pub next: Cursor,
 }
 
 // Whether the postings of block b, which is no tail, end at offset `at`: at the block's end or a null byte.
@@ -66,84 +63,68 @@ pub fn part_end(c: Cursor) -> usize
 }
 
 // The posting at the cursor, its gap counted from `base`.
-fn read_at(arena: &[u8], reports: u32, c: Cursor, base: u32) -> Step
+fn read_at(arena: &[u8], reports: u32, c: Cursor, base: u32) -> Result<Option<Step>, Refusal>
     requires { (place c.block + 64 ≤ length arena.now) × (c.end ≤ 64) × (c.at ≤ part_end c c.block) }
     ensures { result ≡ read_at arena.now reports c base }
 {
     let start = blocks::place_of(c.block);
     let from = start + c.at;
     let to = start + part_end(c);
-    match postings::decode(&arena[from..to]) {
-        Decoded::Rejected => Step::Damaged,
-        Decoded::Posting { gap, count, length } => {
-            if reports < base {
-                return Step::Damaged;
-            }
-            if reports - base < gap {
-                return Step::Damaged;
-            }
-            let number = base + gap;
-            if number <= c.number {
-                return Step::Damaged;
-            }
-            let at = c.at + length;
-            let first = if c.first == 0 { number } else { c.first };
-            Step::Posting {
-                number,
-                count,
-                next: Cursor {
-                    tail: c.tail,
-                    end: c.end,
-                    block: c.block,
-                    at,
-                    number,
-                    first,
-                    left: c.left,
-                },
-            }
-        }
+    let Some(d) = postings::decode(&arena[from..to]) else {
+        return Err(Refusal::Damaged);
+    };
+    if reports < base || reports - base < d.gap {
+        return Err(Refusal::Damaged);
     }
+    let number = base + d.gap;
+    if number <= c.number {
+        return Err(Refusal::Damaged);
+    }
+    Ok(Some(Step {
+        number,
+        count: d.count,
+        next: Cursor {
+            at: c.at + d.length,
+            number,
+            first: if c.first == 0 { number } else { c.first },
+            ..c
+        },
+    }))
 }
 
 // The first posting of the next block.
-pub fn next_block(arena: &[u8], used: u32, reports: u32, c: Cursor) -> Step
+pub fn next_block(arena: &[u8], used: u32, reports: u32, c: Cursor) -> Result<Option<Step>, Refusal>
     requires { Follows arena.now used c × (4 ≤ c.end) }
     ensures { result ≡ next_block arena.now used reports c }
 {
     if c.left == 0 {
-        return Step::Damaged;
+        return Err(Refusal::Damaged);
     }
     let b = blocks::link_of(arena, c.block);
     if used <= b {
-        return Step::Damaged;
+        return Err(Refusal::Damaged);
     }
-    read_at(
-        arena,
-        reports,
-        Cursor {
-            tail: c.tail,
-            end: c.end,
-            block: b,
-            at: 4,
-            number: c.number,
-            first: 0,
-            left: c.left - 1,
-        },
-        c.first,
-    )
+    let entered = Cursor {
+        block: b,
+        at: 4,
+        first: 0,
+        left: c.left - 1,
+        ..c
+    };
+    read_at(arena, reports, entered, c.first)
 }
 
-// One posting after another: the one at the cursor with the cursor past it, the chain's end, or damage.
-pub fn advance(arena: &[u8], used: u32, reports: u32, c: Cursor) -> Step
+// One posting after another: the one at the cursor with the cursor past it; none at the chain's end.
+pub fn advance(arena: &[u8], used: u32, reports: u32, c: Cursor) -> Result<Option<Step>, Refusal>
     requires { Follows arena.now used c × (4 ≤ c.end) }
     ensures { result ≡ step_at arena.now used reports c }
 {
     if is_exhausted(arena, c) {
         if c.first == 0 {
-            return Step::Damaged;
+            return Err(Refusal::Damaged);
         }
         if c.block == c.tail {
-            return Step::End;
+            return Ok(None);
         }
         return next_block(arena, used, reports, c);
     }
@@ -161,71 +142,25 @@ pub struct Passed {
 }
 
 // Reads on in a block's part while numbers are below `to`: to the part's end, or to where no sound posting stands. One loop over plain numbers,
-// without a cursor for each posting.
-pub fn pass(part: &[u8], reports: u32, at: usize, number: u32, to: u32) -> Passed
-    requires { number ≤ reports }
+// without a cursor for each posting. Where no number of the part is over reports, as in a chain that was read whole before, none is judged again.
+pub fn pass<const JUDGED: bool>(part: &[u8], reports: u32, at: usize, number: u32, to: u32) -> Passed
+    requires below { number ≤ reports }
+    requires known { JUDGED ≡ false → Bounded part.now reports at number }
     ensures { result ≡ passed part.now reports at number to }
 {
     let mut p = at;
     let mut n = number;
     let mut postings: u32 = 0;
     while p < part.len() && n < to {
-        match postings::decode_at(part, p) {
-            Decoded::Rejected => {
-                return Passed {
-                    at: p,
-                    number: n,
-                    postings,
-                };
-            }
-            Decoded::Posting {
-                gap,
-                count: _,
-                length,
-            } => {
-                if reports - n < gap {
-                    return Passed {
-                        at: p,
-                        number: n,
-                        postings,
-                    };
-                }
-                n += gap;
-                p += length;
-                postings += 1;
-            }
+        let Some(d) = postings::decode_at(part, p) else {
+            break;
+        };
+        if JUDGED && reports - n < d.gap {
+            break;
         }
-    }
-    Passed {
-        at: p,
-        number: n,
-        postings,
-    }
-}
-
-// The same where no number of the part is over reports, as in a chain that was read whole before: none is judged again.
-fn pass_known(part: &[u8], at: usize, number: u32, to: u32) -> Passed
-    requires { Bounded part.now max_word at number }
-    ensures { (reports : ℕ) → Bounded part.now reports at number → result ≡ passed part.now reports at number to }
-{
-    let mut p = at;
-    let mut n = number;
-    let mut postings: u32 = 0;
-    while p < part.len() && n < to {
-        match postings::decode_at(part, p) {
-            Decoded::Rejected => {
-                break;
-            }
-            Decoded::Posting {
-                gap,
-                count: _,
-                length,
-            } => {
-                n += gap;
-                p += length;
-                postings += 1;
-            }
-        }
+        n += d.gap;
+        p += d.length;
+        postings += 1;
     }
     Passed {
         at: p,
@@ -242,7 +177,7 @@ fn pass_all(part: &[u8], reports: u32, at: usize, number: u32) -> Passed
 {
     let all = sums::add_all(part, at, number);
     if (reports as u64) < all.number {
-        return pass(part, reports, at, number, reports);
+        return pass::<true>(part, reports, at, number, reports);
     }
     Passed {
         at: all.at,
@@ -255,15 +190,7 @@ fn pass_all(part: &[u8], reports: u32, at: usize, number: u32) -> Passed
 pub fn moved(c: Cursor, at: usize, number: u32) -> Cursor
     ensures { result ≡ moved_to c at number }
 {
-    Cursor {
-        tail: c.tail,
-        end: c.end,
-        block: c.block,
-        at,
-        number,
-        first: c.first,
-        left: c.left,
-    }
+    Cursor { at, number, ..c }
 }
 
 // The cursor's place behind what is passed of its block's part, from behind its first posting on, in a chain that was read whole before.
@@ -273,7 +200,7 @@ pub fn pass_part(arena: &[u8], c: Cursor, to: u32) -> Cursor
 {
     let start = blocks::place_of(c.block);
     let end = start + part_end(c);
-    let p = pass_known(&arena[start..end], c.at, c.number, to);
+    let p = pass::<false>(&arena[start..end], u32::MAX, c.at, c.number, to);
     moved(c, p.at, p.number)
 }
 
@@ -289,33 +216,27 @@ pub struct ChainReader<'a> {
 }
 
 // A step from any place: damage where it lies in no used block, or its write offset in no block.
-pub fn step_from(arena: &[u8], used: u32, reports: u32, place: Cursor) -> Step
+pub fn step_from(arena: &[u8], used: u32, reports: u32, place: Cursor) -> Result<Option<Step>, Refusal>
     ensures { result ≡ step_from arena.now used reports place }
 {
-    if blocks::capacity_of(arena) < used {
-        return Step::Damaged;
+    if blocks::capacity_of(arena) < used || used <= place.block {
+        return Err(Refusal::Damaged);
     }
-    if used <= place.block {
-        return Step::Damaged;
-    }
-    if place.end < 4 {
-        return Step::Damaged;
-    }
-    if 64 < place.end {
-        return Step::Damaged;
+    if place.end < 4 || 64 < place.end {
+        return Err(Refusal::Damaged);
     }
     advance(arena, used, reports, place)
 }
 
 // The posting at the reader's place, with the place behind it.
-pub fn next<'a>(r: ChainReader<'a>) -> Step
+pub fn next<'a>(r: ChainReader<'a>) -> Result<Option<Step>, Refusal>
     ensures { result ≡ step_from r.entry.arena.now r.entry.used r.entry.reports r.entry.place }
 {
     step_from(r.arena, r.used, r.reports, r.place)
 }
 
 // The same for a caller that has no reader.
-pub fn read_next(arena: &[u8], used: u32, reports: u32, place: Cursor) -> Step
+pub fn read_next(arena: &[u8], used: u32, reports: u32, place: Cursor) -> Result<Option<Step>, Refusal>
     ensures { result ≡ step_from arena.now used reports place }
 {
     let r = ChainReader {
@@ -329,7 +250,7 @@ pub fn read_next(arena: &[u8], used: u32, reports: u32, place: Cursor) -> Step
 
 // ---- a whole chain
 
-// What was read of a block's part: its first number, 0 where no sound posting stands there, and where reading on from behind it stopped.
+// What was read of a block's part: its first number, and where reading on from behind it stopped.
 #[derive(Clone, Copy)]
 pub struct PartRead {
     pub first: u32,
@@ -373,38 +294,25 @@ fn end_in(d: Head, b: u32) -> usize
     if b == d.tail { d.end } else { 64 }
 }
 
-// Reads a block's part up to offset `end`: its first posting, whose gap counts from `base`, and those behind it.
-fn read_part(arena: &[u8], reports: u32, b: u32, at: usize, end: usize, base: u32) -> PartRead
+// Reads a block's part up to offset `end`: its first posting, whose gap counts from `base`, and those behind it. None where no sound posting stands
+// there.
+fn read_part(arena: &[u8], reports: u32, b: u32, at: usize, end: usize, base: u32) -> Option<PartRead>
     requires { (place b + end ≤ length arena.now) × (base ≤ reports) × (end ≤ block_size) }
     ensures { result ≡ part_read (part_of arena.now b 0 end) reports at base }
 {
     let start = blocks::place_of(b);
     let to = start + end;
     let part = &arena[start..to];
-    if at < part.len() {
-        match postings::decode_at(part, at) {
-            Decoded::Rejected => {}
-            Decoded::Posting {
-                gap,
-                count: _,
-                length,
-            } => {
-                if gap <= reports - base {
-                    let first = base + gap;
-                    let rest = pass_all(part, reports, at + length, first);
-                    return PartRead { first, rest };
-                }
-            }
-        }
+    if part.len() <= at {
+        return None;
     }
-    PartRead {
-        first: 0,
-        rest: Passed {
-            at,
-            number: 0,
-            postings: 0,
-        },
+    let d = postings::decode_at(part, at)?;
+    if reports - base < d.gap {
+        return None;
     }
+    let first = base + d.gap;
+    let rest = pass_all(part, reports, at + d.length, first);
+    Some(PartRead { first, rest })
 }
 
 // The link of a block, where it is used.
@@ -438,7 +346,9 @@ pub fn is_sound(arena: &[u8], used: u32, reports: u32, h: u32) -> bool
     let mut left = used - 1;
     loop {
         let after = link_ahead(arena, used, next);
-        let r = read_part(arena, reports, b, at, end_in(d, b), base);
+        let Some(r) = read_part(arena, reports, b, at, end_in(d, b), base) else {
+            return false;
+        };
         if r.first <= last {
             return false;
         }

@@ -4,10 +4,6 @@ use Rattle.basics.specs.Words.{word_at}
 use Rattle.basics.specs.Lists.{any, same}
 use Rattle.terms.specs.Terms.{is_term, folded}
 use Rattle.frames.specs.Refusals.{Row, ◌if◌, first_of}
-use Rattle.frames.specs.declared.Report.{Report}
-use Rattle.frames.specs.declared.Report.TheVariants as report
-use Rattle.frames.specs.declared.Query.{Query}
-use Rattle.frames.specs.declared.Query.TheVariants as query
 
 -- ---- the parts of a frame: version, length of the body, and the body, whose first byte is the kind
 
@@ -153,19 +149,3 @@ query_start f = word_at f 4
 -- the folded terms of a query, in frame order
 unfoldable pub query_terms : List ℕ → List (List ℕ)
 query_terms f = map (folded_at f) (terms f)
-
--- ---- what the checks answer: the refusal, or how many lines there are, or where a query's terms start
-
-abbrev pub report_as : ℕ → List ℕ → Report
-report_as zero f = report.Lines (length (lines f))
-report_as (suc n) f = report.Refused (suc n)
-
-unfoldable pub report_frame : List ℕ → Report
-report_frame f = report_as (report_refusal f) f
-
-abbrev pub query_as : ℕ → List ℕ → Query
-query_as zero f = query.Terms (query_start f) (record { at = first_term })
-query_as (suc n) f = query.Refused (suc n)
-
-unfoldable pub query_frame : ℕ → ℕ → List ℕ → Query
-query_frame k most f = query_as (query_refusal k most f) f

@@ -2,3 +2,4 @@ pub mod Refusals
 pub mod Frames
 pub mod Repeats
 pub mod Read
+pub mod Answers

@@ -1,7 +1,7 @@
 // Reading a frame (document 01, "Frames"): refusals 1 to 7, and a cursor that hands out one line or term after another.
 #![tactic(auto)]
 
-ghost use Rattle.std.specs.Prelude.{◌≡◌, true, false, ◌+◌, ◌≤◌, ◌<◌, length};
+ghost use Rattle.std.specs.Prelude.{◌≡◌, IfOk, OnOk, true, false, ◌+◌, ◌≤◌, ◌<◌, length};
 ghost use Rattle.basics.specs.Lists.{any, same};
 ghost use Rattle.frames.specs.Refusals.{first_of};
 ghost use Rattle.frames.specs.Frames.{
@@ -23,11 +23,14 @@ ghost use Rattle.frames.specs.Frames.{
   head_rows,
   field_rows,
   report_refusal,
-  report_frame,
-  query_frame,
+  query_refusal,
 };
+ghost use Rattle.frames.specs.Answers.{byte_of, IsKind, IsQuery};
 ghost use Rattle.frames.specs.Repeats.{chain, Chained};
 ghost use Rattle.frames.specs.Read.{Folds, max_lines, Hashed, Read};
+ghost use Rattle.refusals.specs.Numbers.{refused_under};
+
+use refusals::Refusal;
 
 // An offset of a frame at which a field starts, or the frame's end.
 #[derive(Clone, Copy)]
@@ -35,25 +38,38 @@ pub struct Cursor {
     pub at: usize,
 }
 
-// A report's frame: refused, or how many lines it has.
-#[derive(Clone, Copy)]
-pub enum Report {
-    Refused(u8),
-    Lines(usize),
+// The call that a frame is for.
+#[derive(Clone, Copy, Debug, PartialEq, Eq)]
+pub enum Kind {
+    Report,
+    One,
+    All,
 }
 
-// Refusals 4 to 6, or 0 and how many lines there are.
-#[derive(Clone, Copy)]
-pub struct LinesRead {
-    pub refusal: u8,
-    pub count: usize,
+// A byte that is the kind of no call.
+#[derive(Clone, Copy, Debug, PartialEq, Eq)]
+pub struct UnknownKind(pub u8);
+
+impl TryFrom<u8> for Kind {
+    type Error = UnknownKind;
+
+    ghost try_from_gives = { IsKind };
+
+    fn try_from(byte: u8) -> Result<Self, UnknownKind> {
+        match byte {
+            1 => Ok(Kind::Report),
+            2 => Ok(Kind::One),
+            3 => Ok(Kind::All),
+            _ => Err(UnknownKind(byte)),
+        }
+    }
 }
 
-// A query's frame: refused, or the number from which to list and where its first term stands.
+// A query: the number from which to list, and where its first term stands.
 #[derive(Clone, Copy)]
-pub enum Query {
-    Refused(u8),
-    Terms { start: u32, terms: Cursor },
+pub struct Query {
+    pub start: u32,
+    pub terms: Cursor,
 }
 
 impl Cursor {
@@ -110,27 +126,21 @@ fn past_field(frame: &[u8], at: usize, tail: usize) -> usize
 
 // ---- the conditions
 
-// Refusals 1 to 3, the same for every call; 0 for none.
-fn check_head(frame: &[u8], kind: u8) -> u8
-    ensures { result ≡ first_of (head_rows kind frame.now) }
+// Refusals 1 to 3, the same for every call.
+fn check_head(frame: &[u8], kind: Kind) -> Result<(), Refusal>
+    ensures { refused_under result ≡ first_of (head_rows (byte_of kind) frame.now) }
 {
-    if frame.len() < 4 {
-        return 1;
+    if frame.len() < 4 || frame[0] != 1 {
+        return Err(Refusal::WrongVersion);
     }
-    if frame[0] != 1 {
-        return 1;
+    let body = usize::from(frame[1]) * 256 + usize::from(frame[2]);
+    if 4096 < body || body != frame.len() - 3 {
+        return Err(Refusal::WrongLength);
     }
-    let body = basics::wide(frame[1]) * 256 + basics::wide(frame[2]);
-    if 4096 < body {
-        return 2;
+    if Kind::try_from(frame[3]) != Ok(kind) {
+        return Err(Refusal::WrongKind);
     }
-    if body != frame.len() - 3 {
-        return 2;
-    }
-    if frame[3] != kind {
-        return 3;
-    }
-    0
+    Ok(())
 }
 
 // Refusal 4: whether a field passes the frame's end.
@@ -178,10 +188,12 @@ fn bad_term(frame: &[u8], from: usize, tail: usize) -> bool
     false
 }
 
-// Refusals 4 to 6 of a report in one pass; 0 for none. Stores the hash of each line's folded term.
-fn read_lines(frame: &[u8], names: &[u8], hashes: &mut [u32]) -> LinesRead
+// Refusals 4 to 6 of a report in one pass, or how many lines there are. Stores the hash of each line's folded term.
+fn read_lines(frame: &[u8], names: &[u8], hashes: &mut [u32]) -> Result<usize, Refusal>
     requires { (length frame.now ≤ max_body + 3) × Folds frame.now names.now × (max_lines ≤ length hashes.old) }
-    ensures { (result.refusal ≡ first_of (field_rows frame.now)) × (result.refusal ≡ 0 → (result.count ≡ length (lines frame.now)) × (result.count ≤ max_lines) × Hashed frame.now first_line 0 hashes.new) }
+    ensures refused { refused_under result ≡ first_of (field_rows frame.now) }
+    ensures count { IfOk result (λ n. (n ≡ length (lines frame.now)) × (n ≤ max_lines)) }
+    ensures hashed { OnOk result (Hashed frame.now first_line 0 hashes.new) }
 {
     let mut c = Cursor { at: 4 };
     let mut n: usize = 0;
@@ -190,10 +202,7 @@ fn read_lines(frame: &[u8], names: &[u8], hashes: &mut [u32]) -> LinesRead
     while c.at < frame.len() {
         let next = c.past(frame, 4);
         if frame.len() < next.at {
-            return LinesRead {
-                refusal: 4,
-                count: n,
-            };
+            return Err(Refusal::WrongFields);
         }
         let line = terms::judge(c.name(frame, names));
         hashes[n] = line.hash;
@@ -207,15 +216,12 @@ fn read_lines(frame: &[u8], names: &[u8], hashes: &mut [u32]) -> LinesRead
         c = next;
     }
     if bad {
-        return LinesRead {
-            refusal: 5,
-            count: n,
-        };
+        return Err(Refusal::BadTerm);
     }
-    LinesRead {
-        refusal: if zero { 6 } else { 0 },
-        count: n,
+    if zero {
+        return Err(Refusal::ZeroCount);
     }
+    Ok(n)
 }
 
 // Whether a line of the chain from `last` on has the folded term of the line at c.
@@ -260,29 +266,26 @@ fn repeated_term(frame: &[u8], names: &[u8], hashes: &[u32]) -> bool
 
 // ---- the checks
 
-// A report's frame, kind 01. Leaves its folded bytes and the hashes of its lines to the caller, who looks the lines up by them.
-pub fn read_report(frame: &[u8], names: &mut [u8], hashes: &mut [u32]) -> Report
+// A report's frame, or how many lines it has. Leaves its folded bytes and the hashes of its lines to the caller, who looks the lines up by them.
+pub fn read_report(frame: &[u8], names: &mut [u8], hashes: &mut [u32]) -> Result<usize, Refusal>
     requires { (max_body + 3 ≤ length names.old) × (max_lines ≤ length hashes.old) }
-    ensures { (result ≡ report_frame frame.now) × (report_refusal frame.now ≡ 0 → Read frame.now names.new hashes.new) }
+    ensures refused { refused_under result ≡ report_refusal frame.now }
+    ensures count { IfOk result (λ n. n ≡ length (lines frame.now)) }
+    ensures read { OnOk result (Read frame.now names.new hashes.new) }
 {
-    let head = check_head(frame, 1);
-    if head != 0 {
-        return Report::Refused(head);
-    }
+    check_head(frame, Kind::Report)?;
     terms::fold(frame, names);
-    let read = read_lines(frame, names, hashes);
-    if read.refusal != 0 {
-        return Report::Refused(read.refusal);
-    }
+    let count = read_lines(frame, names, hashes)?;
     if repeated_term(frame, names, hashes) {
-        return Report::Refused(7);
+        return Err(Refusal::RepeatedTerm);
     }
-    Report::Lines(read.count)
+    Ok(count)
 }
 
 // The same for a caller that looks nothing up.
-pub fn check_report(frame: &[u8]) -> Report
-    ensures { result ≡ report_frame frame.now }
+pub fn check_report(frame: &[u8]) -> Result<usize, Refusal>
+    ensures refused { refused_under result ≡ report_refusal frame.now }
+    ensures count { IfOk result (λ n. n ≡ length (lines frame.now)) }
 {
     let mut names = [0u8; 4100];
     let mut hashes = [0u32; 820];
@@ -290,45 +293,39 @@ pub fn check_report(frame: &[u8]) -> Report
 }
 
 // A query's frame of the given kind with at most `most` terms.
-fn check_query(frame: &[u8], kind: u8, most: usize) -> Query
-    ensures { result ≡ query_frame kind most frame.now }
+fn check_query(frame: &[u8], kind: Kind, most: usize) -> Result<Query, Refusal>
+    ensures refused { refused_under result ≡ query_refusal (byte_of kind) most frame.now }
+    ensures parts { IfOk result (λ q. IsQuery frame.now q) }
 {
-    let head = check_head(frame, kind);
-    if head != 0 {
-        return Query::Refused(head);
-    }
-    if frame.len() < 8 {
-        return Query::Refused(4);
-    }
-    if passes_end(frame, 8, 0) {
-        return Query::Refused(4);
+    check_head(frame, kind)?;
+    if frame.len() < 8 || passes_end(frame, 8, 0) {
+        return Err(Refusal::WrongFields);
     }
     let n = count_terms(frame);
-    if n == 0 {
-        return Query::Refused(4);
-    }
-    if most < n {
-        return Query::Refused(4);
+    if n == 0 || most < n {
+        return Err(Refusal::WrongFields);
     }
     if bad_term(frame, 8, 0) {
-        return Query::Refused(5);
+        return Err(Refusal::BadTerm);
     }
-    Query::Terms {
+    Ok(Query {
         start: basics::read_word(frame, 4),
         terms: Cursor { at: 8 },
-    }
+    })
 }
 
 // A listing of one term, kind 02.
-pub fn check_one(frame: &[u8]) -> Query
-    ensures { result ≡ query_frame 2 1 frame.now }
+pub fn check_one(frame: &[u8]) -> Result<Query, Refusal>
+    ensures refused { refused_under result ≡ query_refusal 2 1 frame.now }
+    ensures parts { IfOk result (λ q. IsQuery frame.now q) }
 {
-    check_query(frame, 2, 1)
+    check_query(frame, Kind::One, 1)
 }
 
 // A listing of all of 1 to 8 terms, kind 03.
-pub fn check_all(frame: &[u8]) -> Query
-    ensures { result ≡ query_frame 3 8 frame.now }
+pub fn check_all(frame: &[u8]) -> Result<Query, Refusal>
+    ensures refused { refused_under result ≡ query_refusal 3 8 frame.now }
+    ensures parts { IfOk result (λ q. IsQuery frame.now q) }
 {
-    check_query(frame, 3, 8)
+    check_query(frame, Kind::All, 8)
 }

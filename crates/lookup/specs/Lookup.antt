@@ -1,10 +1,12 @@
 -- Finding a term in the table (document 01, "Memory lent to the index", "Finding a term"; damage at look-up).
-use Rattle.std.specs.Prelude.{ℕ, zero, suc, ◌+◌, ◌-◌, ◌%◌, ◌<◌, min, ◌≡◌, List, cond, ◌&&◌, ltb, leb, eqb, length, get_or, set}
+use Rattle.std.specs.Prelude.{ℕ, zero, suc, ◌+◌, ◌-◌, ◌%◌, ◌<◌, min, ◌≡◌, List, Result, Ok, Err, cond, ◌&&◌, ltb, leb, eqb, length, get_or, set}
 use Rattle.basics.specs.Lists.{same}
 use Rattle.terms.specs.Terms.{fnv1a}
 use Rattle.blocks.specs.Fields.{max_word, place, name_of}
+use Rattle.refusals.specs.declared.Refusal.{Refusal}
+use Rattle.refusals.specs.declared.Refusal.TheVariants.{Damaged}
 use Rattle.lookup.specs.declared.Found.{Found}
-use Rattle.lookup.specs.declared.Found.TheVariants.{At, Unknown, Damaged}
+use Rattle.lookup.specs.declared.Found.TheVariants.{At, Unknown}
 
 -- T: how many entries of a table of so many are slots
 abbrev pub slots_in : ℕ → ℕ
@@ -19,17 +21,17 @@ next_slot t s = cond (eqb (s + 1) t) 0 (s + 1)
 
 -- from slot s to a match or an empty slot; `left` slots are still to be met. Damage: a slot met whose block is not used, or all slots
 -- filled and none a match
-unfoldable pub search_from : ℕ → List ℕ → ℕ → List ℕ → List ℕ → ℕ → Found
-search_from zero a used table name s = Damaged
+unfoldable pub search_from : ℕ → List ℕ → ℕ → List ℕ → List ℕ → ℕ → Result Found Refusal
+search_from zero a used table name s = Err Damaged
 search_from (suc left) a used table name s =
     let on = search_from left a used table name (next_slot (slots table) s) in
     let e = get_or table s 0 in
-    cond (eqb e 0) (Unknown s) (cond (ltb (e - 1) used) (cond (same (name_of a (e - 1)) name) (At (e - 1)) on) Damaged)
+    cond (eqb e 0) (Ok (Unknown s)) (cond (ltb (e - 1) used) (cond (same (name_of a (e - 1)) name) (Ok (At (e - 1))) on) (Err Damaged))
 
 -- the search for a folded term, from the slot of its hash on. Where the table has no slot every term is unknown
-unfoldable pub search : List ℕ → ℕ → List ℕ → List ℕ → Found
+unfoldable pub search : List ℕ → ℕ → List ℕ → List ℕ → Result Found Refusal
 search a used table name =
-    cond (eqb (slots table) 0) (Unknown 0) (search_from (slots table) a used table name (fnv1a name % slots table))
+    cond (eqb (slots table) 0) (Ok (Unknown 0)) (search_from (slots table) a used table name (fnv1a name % slots table))
 
 -- a new term's head in the empty slot met: block number + 1
 unfoldable pub enter : List ℕ → ℕ → ℕ → List ℕ
@@ -46,10 +48,10 @@ unfoldable pub length_behind : List ℕ → ℕ → ℕ → ℕ
 length_behind a used e = cond (ltb 0 e && leb e used) (get_or a (place (e - 1) + 17) 0) 0
 
 -- the first entry of a search that ended with a match there; 0 of any other
-unfoldable pub first_hit : Found → ℕ → ℕ
-first_hit (At b) e = cond (eqb (b + 1) e) e 0
-first_hit (Unknown s) e = 0
-first_hit Damaged e = 0
+unfoldable pub first_hit : Result Found Refusal → ℕ → ℕ
+first_hit (Ok (At b)) e = cond (eqb (b + 1) e) e 0
+first_hit (Ok (Unknown s)) e = 0
+first_hit (Err r) e = 0
 
 -- the first `count` entries are those of the first `count` hashes
 pub record Entries (table hashes : List ℕ) (count : ℕ) (entries : List ℕ) : Type 0 where

@@ -7,12 +7,13 @@ ghost use Rattle.terms.specs.Terms.{max_term, folded, fnv1a};
 ghost use Rattle.blocks.specs.Fields.{max_word, block_size, place, name_of};
 ghost use Rattle.lookup.specs.Lookup.{slots, search, enter, first_entry, length_behind, first_hit, Entries, Lengths};
 
-// What a search finds: the head's block, the empty slot where the term would go, or damage.
+use refusals::Refusal;
+
+// What a search finds: the head's block, or the empty slot where the term would go.
 #[derive(Clone, Copy)]
 pub enum Found {
     At(u32),
     Unknown(u32),
-    Damaged,
 }
 
 // How many entries of the table are slots.
@@ -41,39 +42,38 @@ fn holds_name(arena: &[u8], b: u32, name: &[u8]) -> bool
     basics::same_bytes(&arena[from..to], name)
 }
 
-// The search for a folded term: from the slot of its hash, one slot on and wrapping, to a match or an empty slot.
-pub fn find(arena: &[u8], used: u32, table: &[u32], name: &[u8], hash: u32) -> Found
+// The search for a folded term: from the slot of its hash, one slot on and wrapping, to a match or an empty slot. Refused as damaged where a slot leads
+// to no used block, or all slots are filled and none is a match.
+pub fn find(arena: &[u8], used: u32, table: &[u32], name: &[u8], hash: u32) -> Result<Found, Refusal>
     requires { (place used ≤ length arena.now) × (length name.now ≤ max_term) × (hash ≡ fnv1a name.now) }
     ensures { result ≡ search arena.now used table.now name.now }
 {
     let t = slots_of(table);
     if t == 0 {
-        return Found::Unknown(0);
+        return Ok(Found::Unknown(0));
     }
     let mut slot = hash % t;
-    let mut left = t;
-    while 0 < left {
+    for _ in 0..t {
         let e = table[slot as usize];
         if e == 0 {
-            return Found::Unknown(slot);
+            return Ok(Found::Unknown(slot));
         }
         if used <= e - 1 {
-            return Found::Damaged;
+            return Err(Refusal::Damaged);
         }
         if holds_name(arena, e - 1, name) {
-            return Found::At(e - 1);
+            return Ok(Found::At(e - 1));
         }
         slot += 1;
         if slot == t {
             slot = 0;
         }
-        left -= 1;
     }
-    Found::Damaged
+    Err(Refusal::Damaged)
 }
 
 // The same for a term that is not folded yet.
-pub fn find_term(arena: &[u8], used: u32, table: &[u32], term: &[u8]) -> Found
+pub fn find_term(arena: &[u8], used: u32, table: &[u32], term: &[u8]) -> Result<Found, Refusal>
     requires { (place used ≤ length arena.now) × (length term.now ≤ max_term) }
     ensures { result ≡ search arena.now used table.now (folded term.now) }
 {
@@ -145,7 +145,7 @@ pub fn find_from(
     hash: u32,
     entry: u32,
     stored: u8,
-) -> Found
+) -> Result<Found, Refusal>
     requires { (place used ≤ length arena.now) × (0 < length name.now) × (length name.now ≤ max_term) × (hash ≡ fnv1a name.now) × (entry ≡ first_entry table.now hash) × (stored ≡ length_behind arena.now used entry) }
     ensures { result ≡ search arena.now used table.now name.now }
 {
@@ -154,23 +154,20 @@ pub fn find_from(
         let from = blocks::place_of(entry - 1) + 18;
         let to = from + n;
         if basics::same_bytes(&arena[from..to], name) {
-            return Found::At(entry - 1);
+            return Ok(Found::At(entry - 1));
         }
     }
     find(arena, used, table, name, hash)
 }
 
 // The first entry of a search that ended with a match there; 0 of any other.
-pub fn first_hit(found: Found, entry: u32) -> u32
+pub fn first_hit(found: Result<Found, Refusal>, entry: u32) -> u32
     ensures { result ≡ first_hit found entry }
 {
-    let Found::At(b) = found else {
-        return 0;
-    };
-    if entry == 0 {
-        return 0;
+    match found {
+        Ok(Found::At(b)) if 0 < entry && entry - 1 == b => entry,
+        _ => 0,
     }
-    if entry - 1 == b { entry } else { 0 }
 }
 
 // Puts a new term's head into the empty slot met.

@@ -1,9 +1,7 @@
 -- Double-VByte with threshold 4 (document 01, "Coding a posting"; source document 001, algorithm 2, F = 4).
-use Rattle.std.specs.Prelude.{ℕ, zero, suc, ◌+◌, ◌-◌, ◌*◌, ◌/◌, ◌%◌, max, List, [], ◌∷◌, ◌++◌, cond, drop, ltb, leb}
+use Rattle.std.specs.Prelude.{ℕ, zero, suc, ◌+◌, ◌-◌, ◌*◌, ◌/◌, ◌%◌, max, List, [], ◌∷◌, ◌++◌, Option, Some, None, cond, drop, ltb, leb}
 use Rattle.postings.specs.declared.Value.{Value}
-use Rattle.postings.specs.declared.Value.TheVariants.{Number, NoValue}
 use Rattle.postings.specs.declared.Decoded.{Decoded}
-use Rattle.postings.specs.declared.Decoded.TheVariants.{Posting, Rejected}
 
 -- ---- the numbers of the coding
 
@@ -47,33 +45,42 @@ code g f = cond (ltb f threshold) (vbyte ((g - 1) * threshold + f)) (vbyte (g * 
 
 -- ---- decoding
 
+-- value v in l bytes
+abbrev pub valued : ℕ → ℕ → Option Value
+valued v l = Some (record { value = v; length = l })
+
+-- gap g and count f in l bytes
+abbrev pub posting : ℕ → ℕ → ℕ → Option Decoded
+posting g f l = Some (record { gap = g; count = f; length = l })
+
 -- a byte of 128 or more in front of a value
-unfoldable pub onto : ℕ → Value → Value
-onto b (Number v l) = Number (b - 128 + 128 * v) (l + 1)
-onto b NoValue = NoValue
+unfoldable pub onto : ℕ → Option Value → Option Value
+onto b (Some n) = valued (b - 128 + 128 * n.value) (n.length + 1)
+onto b None = None
 
 -- the value at the front and the bytes it takes: bytes from 128 to 255, then one from 1 to 127. A null last byte is no shortest code
-unfoldable pub value : List ℕ → Value
-value [] = NoValue
-value (b ∷ s) =
-    cond (ltb b 128) (cond (ltb 0 b) (Number b 1) NoValue) (cond (ltb b 256) (onto b (value s)) NoValue)
+unfoldable pub value : List ℕ → Option Value
+value [] = None
+value (b ∷ s) = cond (ltb b 128) (cond (ltb 0 b) (valued b 1) None) (cond (ltb b 256) (onto b (value s)) None)
 
 -- a value of at most `most`
-unfoldable pub at_most : ℕ → Value → Value
-at_most most (Number v l) = cond (leb v most) (Number v l) NoValue
-at_most most NoValue = NoValue
+unfoldable pub at_most : ℕ → Option Value → Option Value
+at_most most (Some n) = cond (leb n.value most) (Some n) None
+at_most most None = None
 
 -- gap g was coded in l bytes; the second value gives the count
-unfoldable pub second : ℕ → ℕ → Value → Decoded
-second g l (Number w m) = Posting g (w + 3) (l + m)
-second g l NoValue = Rejected
+unfoldable pub second : ℕ → ℕ → Option Value → Option Decoded
+second g l (Some n) = posting g (n.value + 3) (l + n.length)
+second g l None = None
 
 -- the first value gives gap and count, or the gap alone where 4 divides it
-unfoldable pub first : List ℕ → Value → Decoded
-first s (Number v l) =
-    cond (ltb 0 (v % threshold)) (Posting (v / threshold + 1) (v % threshold) l) (second (v / threshold) l (at_most max_second (value (drop l s))))
-first s NoValue = Rejected
+unfoldable pub first : List ℕ → Option Value → Option Decoded
+first s (Some n) =
+    let v = n.value in
+    cond (ltb 0 (v % threshold)) (posting (v / threshold + 1) (v % threshold) n.length)
+    (second (v / threshold) n.length (at_most max_second (value (drop n.length s))))
+first s None = None
 
--- the posting at the front of the bytes, and how many bytes it takes
-unfoldable pub decoded : List ℕ → Decoded
+-- the posting at the front of the bytes, and how many bytes it takes; none where they are rejected
+unfoldable pub decoded : List ℕ → Option Decoded
 decoded s = first s (at_most max_first (value s))

@@ -1,8 +1,7 @@
 -- The marked cases of document 01, "Coding a posting". The blocks crate joins the marked chain to them and shows all twelve right by one computed test.
-use Rattle.std.specs.Prelude.{ℕ, List, [], ◌∷◌, Bool, false, ◌&&◌, eqb, length}
+use Rattle.std.specs.Prelude.{ℕ, List, [], ◌∷◌, Option, Some, None, Bool, false, ◌&&◌, eqb, length}
 use Rattle.basics.specs.Lists.{same}
 use Rattle.postings.specs.declared.Decoded.{Decoded}
-use Rattle.postings.specs.declared.Decoded.TheVariants.{Posting, Rejected}
 use Rattle.postings.specs.Coding.{vbyte, code, decoded}
 
 -- a gap and a count with their bytes, or a single value with its bytes
@@ -26,9 +25,9 @@ marked =
     ∷ []
 
 -- decoding found this gap and count in so many bytes
-unfoldable pub finds : ℕ → ℕ → ℕ → Decoded → Bool
-finds g f l (Posting g' f' l') = eqb g g' && eqb f f' && eqb l l'
-finds g f l Rejected = false
+unfoldable pub finds : ℕ → ℕ → ℕ → Option Decoded → Bool
+finds g f l (Some d) = eqb g d.gap && eqb f d.count && eqb l d.length
+finds g f l None = false
 
 -- the definitions give the bytes, and read them back
 unfoldable pub right : Case → Bool

@@ -33,18 +33,19 @@ impl BGap {
     }
 }
 
-// What stands at the front of some bytes: a value and the bytes it takes.
+// A value at the front of some bytes, and how many of them it takes.
 #[derive(Clone, Copy)]
-pub enum Value {
-    Number { value: u64, length: usize },
-    NoValue,
+pub struct Value {
+    pub value: u64,
+    pub length: usize,
 }
 
-// What decoding finds: a posting and the bytes it takes.
+// A posting at the front of some bytes, and how many of them it takes.
 #[derive(Clone, Copy)]
-pub enum Decoded {
-    Posting { gap: u32, count: u32, length: usize },
-    Rejected,
+pub struct Decoded {
+    pub gap: u32,
+    pub count: u32,
+    pub length: usize,
 }
 
 // How many bytes code a value, by its length in bits.
@@ -118,74 +119,56 @@ pub fn put_posting(s: &mut [u8], at: usize, gap: u32, count: u32) -> usize
 }
 
 // The value at the front of s, where it is at most `most`.
-fn read_value(s: &[u8], most: u64) -> Value
+fn read_value(s: &[u8], most: u64) -> Option<Value>
     requires { most < 2 ^ 35 }
     ensures { result ≡ at_most most (value s.now) }
 {
     let mut v: u64 = 0;
     let mut weight: u64 = 1;
-    let mut i: usize = 0;
-    while i < s.len() {
-        let b = s[i] as u64;
+    // a sixth byte would take the value past 35 bits
+    for (i, b) in s.iter().take(5).enumerate() {
+        let b = u64::from(*b);
         if b < 128 {
-            if b == 0 {
-                return Value::NoValue;
-            }
             let n = v + b * weight;
-            if n <= most {
-                return Value::Number {
-                    value: n,
-                    length: i + 1,
-                };
+            if b == 0 || most < n {
+                return None;
             }
-            return Value::NoValue;
-        }
-        // a sixth byte would take the value past 35 bits
-        if i == 4 {
-            return Value::NoValue;
+            return Some(Value {
+                value: n,
+                length: i + 1,
+            });
         }
         v += (b - 128) * weight;
         weight *= 128;
-        i += 1;
     }
-    Value::NoValue
+    None
 }
 
 // The posting at the front of s, of any length.
-fn decode_long(s: &[u8]) -> Decoded
+fn decode_long(s: &[u8]) -> Option<Decoded>
     ensures { result ≡ decoded s.now }
 {
-    match read_value(s, 17179869180) {
-        Value::NoValue => Decoded::Rejected,
-        Value::Number {
-            value: v,
+    let first = read_value(s, 17179869180)?;
+    let v = first.value;
+    let n = first.length;
+    let f = v % 4;
+    if 0 < f {
+        return Some(Decoded {
+            gap: (v / 4 + 1) as u32,
+            count: f as u32,
             length: n,
-        } => {
-            let f = v % 4;
-            if 0 < f {
-                return Decoded::Posting {
-                    gap: (v / 4 + 1) as u32,
-                    count: f as u32,
-                    length: n,
-                };
-            }
-            match read_value(&s[n..], 4294967292) {
-                Value::NoValue => Decoded::Rejected,
-                Value::Number {
-                    value: w,
-                    length: m,
-                } => Decoded::Posting {
-                    gap: (v / 4) as u32,
-                    count: (w + 3) as u32,
-                    length: n + m,
-                },
-            }
-        }
+        });
     }
+    let second = read_value(&s[n..], 4294967292)?;
+    Some(Decoded {
+        gap: (v / 4) as u32,
+        count: (second.value + 3) as u32,
+        length: n + second.length,
+    })
 }
 
 // The posting that stands in s from `at` on. Most postings take one byte or two: these are read without a call, from the bytes as they stand.
-pub fn decode_at(s: &[u8], at: usize) -> Decoded
+pub fn decode_at(s: &[u8], at: usize) -> Option<Decoded>
     requires { at < length s.now }
     ensures { result ≡ decoded (drop at s.now) }
 {
@@ -193,20 +176,20 @@ pub fn decode_at(s: &[u8], at: usize) -> Decoded
     let f = b % 4;
     if 0 < f {
         if b < 128 {
-            return Decoded::Posting {
+            return Some(Decoded {
                 gap: b / 4 + 1,
                 count: f,
                 length: 1,
-            };
+            });
         }
         if at + 1 < s.len() {
             let d = s[at + 1] as u32;
             if 0 < d && d < 128 {
-                return Decoded::Posting {
+                return Some(Decoded {
                     gap: (b - 128 + 128 * d) / 4 + 1,
                     count: f,
                     length: 2,
-                };
+                });
             }
         }
     } else {
@@ -214,11 +197,11 @@ pub fn decode_at(s: &[u8], at: usize) -> Decoded
         if 0 < b && b < 128 && at + 1 < s.len() {
             let d = s[at + 1] as u32;
             if 0 < d && d < 128 {
-                return Decoded::Posting {
+                return Some(Decoded {
                     gap: b / 4,
                     count: d + 3,
                     length: 2,
-                };
+                });
             }
         }
     }
@@ -227,7 +210,7 @@ pub fn decode_at(s: &[u8], at: usize) -> Decoded
 
 // The posting at the front of s. Long codes have two callers, so that the compiler does not take their reading into decode_at, which would then be
 // too long to be taken into the loops that call it.
-pub fn decode(s: &[u8]) -> Decoded
+pub fn decode(s: &[u8]) -> Option<Decoded>
     ensures { result ≡ decoded s.now }
 {
     if 0 < s.len() {

@@ -1,8 +1,7 @@
 -- Adding up the postings of a part, whatever reports there are.
-use Rattle.std.specs.Prelude.{ℕ, zero, suc, ◌+◌, ◌*◌, ◌≤◌, List, cond, ltb, length, drop}
+use Rattle.std.specs.Prelude.{ℕ, zero, suc, ◌+◌, ◌*◌, ◌≤◌, List, Option, Some, None, cond, ltb, length, drop}
 use Rattle.postings.specs.Coding.{decoded}
 use Rattle.postings.specs.declared.Decoded.{Decoded}
-use Rattle.postings.specs.declared.Decoded.TheVariants as code
 use Rattle.sums.specs.declared.Sum.{Sum}
 
 -- before the first posting that is added
@@ -14,9 +13,9 @@ abbrev pub further : Sum → ℕ → ℕ → Sum
 further p g l = record { at = p.at + l; number = p.number + g; postings = p.postings + 1 }
 
 -- a posting is added and what is behind it too; where none is decoded the sum ends
-unfoldable pub add_one : (Sum → Sum) → Sum → Decoded → Sum
-add_one rest p (code.Posting g f l) = rest (further p g l)
-add_one rest p code.Rejected = p
+unfoldable pub add_one : (Sum → Sum) → Sum → Option Decoded → Sum
+add_one rest p (Some d) = rest (further p d.gap d.length)
+add_one rest p None = p
 
 -- the postings that start before offset `stop`, at most `fuel` of them
 unfoldable pub add_from : ℕ → List ℕ → ℕ → Sum → Sum

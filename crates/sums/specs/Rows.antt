@@ -2,7 +2,7 @@
 -- byte is a second one where 4 divides the byte before it and that byte starts a code. Where no three bytes on end are divided by 4, the two bytes
 -- before it tell: 4 divides the nearer one and not the other.
 use Rattle.std.specs.Prelude.{ℕ, zero, suc, ◌+◌, ◌/◌, ◌%◌, ◌<◌, ◌≡◌, List, Bool, false, cond, ◌&&◌, ◌||◌, ltb, length, get_or}
-use Rattle.sums.specs.declared.RowsRead.{RowsRead}
+use Rattle.sums.specs.declared.RowSum.{RowSum}
 use Rattle.sums.specs.Adding.{added_to}
 
 -- ---- one byte
@@ -50,6 +50,6 @@ unfoldable pub total : List ℕ → ℕ
 total xs = sum_from (λ i. get_or xs i 0) 0 16
 
 -- what was read of the rows is what adding up from offset 16 on gives
-pub record Rows (part : List ℕ) (r : RowsRead) : Type 0 where
+pub record Rows (part : List ℕ) (r : RowSum) : Type 0 where
   pub few : r.postings < 64
   pub adds : (n k : ℕ) → added_to part 64 (record { at = 16; number = n; postings = k }) ≡ record { at = 64; number = n + r.gaps; postings = k + r.postings }

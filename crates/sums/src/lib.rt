@@ -2,11 +2,9 @@
 // have single bytes, and those are added up sixteen at a time.
 #![tactic(auto)]
 
-ghost use Rattle.std.specs.Prelude.{◌≡◌, true, false, ◌+◌, ◌≤◌, ◌<◌, length};
+ghost use Rattle.std.specs.Prelude.{◌≡◌, IfSome, ◌+◌, ◌≤◌, ◌<◌, length};
 ghost use Rattle.sums.specs.Adding.{sum_of, added_to, Small};
 ghost use Rattle.sums.specs.Rows.{gap_of, mark_of, gap_at, mark_at, lane, Lane, total, Rows};
-
-use postings::Decoded;
 
 // The offset behind the last posting, the number that the gaps lead to, whatever reports there are, and how many postings they are.
 #[derive(Clone, Copy)]
@@ -25,20 +23,12 @@ fn add_up(part: &[u8], from: Sum, stop: usize) -> Sum
     let mut n = from.number;
     let mut postings = from.postings;
     while p < stop {
-        match postings::decode_at(part, p) {
-            Decoded::Rejected => {
-                break;
-            }
-            Decoded::Posting {
-                gap,
-                count: _,
-                length,
-            } => {
-                n += gap as u64;
-                p += length;
-                postings += 1;
-            }
-        }
+        let Some(d) = postings::decode_at(part, p) else {
+            break;
+        };
+        n += u64::from(d.gap);
+        p += d.length;
+        postings += 1;
     }
     Sum {
         at: p,
@@ -96,8 +86,7 @@ fn lanes_of(part: &[u8]) -> Lanes
 {
     let mut gaps = [0u8; 16];
     let mut marks = [0u8; 16];
-    let mut i: usize = 0;
-    while i < 16 {
+    for i in 0..16 {
         let p = part[i + 14];
         let q = part[i + 15];
         let b = part[i + 16];
@@ -109,7 +98,6 @@ fn lanes_of(part: &[u8]) -> Lanes
         let b3 = part[i + 48];
         gaps[i] = gap_of(b, q, p) + gap_of(b2, q2, p2) + gap_of(b3, q3, p3);
         marks[i] = mark_of(b, q, p) + mark_of(b2, q2, p2) + mark_of(b3, q3, p3);
-        i += 1;
     }
     Lanes { gaps, marks }
 }
@@ -118,56 +106,39 @@ fn total_of(lanes: &[u8]) -> u32
     requires { length lanes.now ≡ 16 }
     ensures { result ≡ total lanes.now }
 {
-    let mut sum: u32 = 0;
-    let mut i: usize = 0;
-    while i < 16 {
-        sum += lanes[i] as u32;
-        i += 1;
-    }
-    sum
+    lanes.iter().map(|n| u32::from(*n)).sum()
 }
 
-// What the last 48 bytes of a whole block add up to, where they are codes of single bytes.
+// What the last 48 bytes of a whole block add up to.
 #[derive(Clone, Copy)]
-pub struct RowsRead {
-    pub told: bool,
+pub struct RowSum {
     pub gaps: u32,
     pub postings: u32,
 }
 
-fn untold() -> RowsRead
-    ensures { result.told ≡ false }
-{
-    RowsRead {
-        told: false,
-        gaps: 0,
-        postings: 0,
-    }
-}
-
-// A code starts at offset 16, its byte before being no first byte of two; and the last byte is none either.
-fn read_rows(part: &[u8]) -> RowsRead
+// The last 48 bytes of a whole block, where they are codes of single bytes. A code starts at offset 16, its byte before being no first byte of two;
+// and the last byte is none either.
+fn read_rows(part: &[u8]) -> Option<RowSum>
     requires { length part.now ≡ 64 }
-    ensures { result.told ≡ true → Rows part.now result }
+    ensures { IfSome result (λ r. Rows part.now r) }
 {
     if part[15] % 4 == 0 {
-        return untold();
+        return None;
     }
     if part[63] % 4 == 0 {
         if part[62] % 4 != 0 {
-            return untold();
+            return None;
         }
     }
     let lanes = lanes_of(part);
     let postings = total_of(&lanes.marks);
     if 64 <= postings {
-        return untold();
+        return None;
     }
-    RowsRead {
-        told: true,
+    Some(RowSum {
         gaps: total_of(&lanes.gaps),
         postings,
-    }
+    })
 }
 
 // Adds up all postings of a part from offset `at` on, behind the posting of that number.
@@ -177,18 +148,16 @@ pub fn add_all(part: &[u8], at: usize, number: u32) -> Sum
 {
     let none = Sum {
         at,
-        number: number as u64,
+        number: u64::from(number),
         postings: 0,
     };
     let n = part.len();
-    let stop: usize = if n < 16 { n } else { 16 };
-    let front = add_up(part, none, stop);
+    let front = add_up(part, none, n.min(16));
     if front.at == 16 && n == 64 {
-        let rows = read_rows(part);
-        if rows.told {
+        if let Some(rows) = read_rows(part) {
             return Sum {
                 at: 64,
-                number: front.number + rows.gaps as u64,
+                number: front.number + u64::from(rows.gaps),
                 postings: front.postings + rows.postings,
             };
         }
