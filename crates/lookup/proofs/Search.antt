@@ -3,6 +3,7 @@
 use mathlib.Core.Path.{◌≡◌, refl, sym, ◌∙◌}
 use mathlib.Core.Bool.{Bool, true, false, cond}
 use mathlib.Core.List.{List}
+use Rattle.std.specs.Prelude.{Result, Ok, Err}
 use Prim.Native.Nat.{ℕ, zero, suc, ◌+◌, ◌-◌, ◌%◌, ◌≤◌, ◌<◌}
 use native.Mathlib.Nat.{mod-lt}
 use native.Mathlib.Omega.{arith}
@@ -15,9 +16,11 @@ use Rattle.basics.proofs.Cases.{by-lt, by-eq}
 use Rattle.basics.proofs.Lists.{same_eq, eq_same}
 use Rattle.terms.specs.Terms.{fnv1a}
 use Rattle.blocks.specs.Fields.{name_of}
+use Rattle.refusals.specs.declared.Refusal.{Refusal}
+use Rattle.refusals.specs.declared.Refusal.TheVariants.{Damaged}
 use Rattle.lookup.specs.Lookup.{slots, next_slot, search_from, search, enter, first_entry, first_hit}
 use Rattle.lookup.specs.declared.Found.{Found}
-use Rattle.lookup.specs.declared.Found.TheVariants.{At, Unknown, Damaged}
+use Rattle.lookup.specs.declared.Found.TheVariants.{At, Unknown}
 
 -- ---- slots
 
@@ -99,14 +102,14 @@ module _ (a : List ℕ) (used : ℕ) (table w : List ℕ) where
   abbrev pub block : ℕ → ℕ
   block s = get_or table s 0 - 1
 
-  abbrev pub from : ℕ → ℕ → Found
+  abbrev pub from : ℕ → ℕ → Result Found Refusal
   from left s = search_from left a used table w s
 
   abbrev pub next : ℕ → ℕ
   next s = next_slot (slots table) s
 
   -- no slot is left
-  pub from-none : (left s : ℕ) → left ≤ 0 → from left s ≡ Damaged
+  pub from-none : (left s : ℕ) → left ≤ 0 → from left s ≡ Err Damaged
   unfolding search_from
   from-none zero s h = refl
   from-none (suc left) s h = absurd (omega arith)
@@ -114,7 +117,7 @@ module _ (a : List ℕ) (used : ℕ) (table w : List ℕ) where
   -- the tests at slot s
   pub from_some : (left s : ℕ) → 0 < left
       → from left s
-      ≡ cond (eqb (get_or table s 0) 0) (Unknown s) (cond (ltb (block s) used) (cond (same (name_of a (block s)) w) (At (block s)) (from (left - 1) (next s))) Damaged)
+      ≡ cond (eqb (get_or table s 0) 0) (Ok (Unknown s)) (cond (ltb (block s) used) (cond (same (name_of a (block s)) w) (Ok (At (block s))) (from (left - 1) (next s))) (Err Damaged))
   unfolding search_from
   from_some zero s h = absurd (omega arith)
   from_some (suc left) s h =
@@ -123,9 +126,9 @@ module _ (a : List ℕ) (used : ℕ) (table w : List ℕ) where
 
   -- the ways that they go
   pub data Step (left s : ℕ) : Type 0 where
-    vacant : get_or table s 0 ≡ 0 → from (suc left) s ≡ Unknown s → Step left s
-    unused : (get_or table s 0 ≡ 0 → ⊥) → used ≤ block s → from (suc left) s ≡ Damaged → Step left s
-    found : (get_or table s 0 ≡ 0 → ⊥) → Stands a used w (block s) → from (suc left) s ≡ At (block s) → Step left s
+    vacant : get_or table s 0 ≡ 0 → from (suc left) s ≡ Ok (Unknown s) → Step left s
+    unused : (get_or table s 0 ≡ 0 → ⊥) → used ≤ block s → from (suc left) s ≡ Err Damaged → Step left s
+    found : (get_or table s 0 ≡ 0 → ⊥) → Stands a used w (block s) → from (suc left) s ≡ Ok (At (block s)) → Step left s
     passed : (get_or table s 0 ≡ 0 → ⊥) → (name_of a (block s) ≡ w → ⊥) → from (suc left) s ≡ from left (next s) → Step left s
 
   pub step : (left s : ℕ) → Step left s
@@ -146,12 +149,12 @@ module _ (a : List ℕ) (used : ℕ) (table w : List ℕ) where
           (rw (ne_eqb (get_or table s 0) 0 n, lt-ltb (block s) used l, e))
 
   -- what is found is used, and holds the name
-  from_at : (left s b : ℕ) → from left s ≡ At b → Stands a used w b
+  from_at : (left s b : ℕ) → from left s ≡ Ok (At b) → Stands a used w b
   unfolding search_from
   from_at zero s b e = let z : ◌≡◌ {A = ℕ} 0 1 = cc in absurd (omega arith)
   from_at (suc left) s b e = go (step left s) (from_at left (next s) b)
     where
-      go : Step left s → (from left (next s) ≡ At b → Stands a used w b) → Stands a used w b
+      go : Step left s → (from left (next s) ≡ Ok (At b) → Stands a used w b) → Stands a used w b
       go (vacant z q) ih = let z : ◌≡◌ {A = ℕ} 0 1 = cc in absurd (omega arith)
       go (unused n g q) ih = let z : ◌≡◌ {A = ℕ} 0 1 = cc in absurd (omega arith)
       go (found n m q) ih =
@@ -160,7 +163,7 @@ module _ (a : List ℕ) (used : ℕ) (table w : List ℕ) where
       go (passed n m q) ih = ih (sym q ∙ e)
 
   -- where nothing is found a slot is empty
-  pub from_unknown : (left s k : ℕ) → s < slots table → from left s ≡ Unknown k → Vacant (slots table) table left s k
+  pub from_unknown : (left s k : ℕ) → s < slots table → from left s ≡ Ok (Unknown k) → Vacant (slots table) table left s k
   unfolding search_from
   from_unknown zero s k h e = let z : ◌≡◌ {A = ℕ} 0 1 = cc in absurd (omega arith)
   from_unknown (suc left) s k h e = go (step left s) (from_unknown left (next s) k (next_lt (slots table) s h))
@@ -168,7 +171,7 @@ module _ (a : List ℕ) (used : ℕ) (table w : List ℕ) where
       further : (get_or table s 0 ≡ 0 → ⊥) → Vacant (slots table) table left (next s) k → Vacant (slots table) table (suc left) s k
       further n v = record { way = on n v.way; inside = v.inside; empty = v.empty }
 
-      go : Step left s → (from left (next s) ≡ Unknown k → Vacant (slots table) table left (next s) k) → Vacant (slots table) table (suc left) s k
+      go : Step left s → (from left (next s) ≡ Ok (Unknown k) → Vacant (slots table) table left (next s) k) → Vacant (slots table) table (suc left) s k
       go (vacant n q) ih =
           let z : s ≡ k = cc in
           rw (← z) record { way = here; inside = h; empty = n }
@@ -179,27 +182,27 @@ module _ (a : List ℕ) (used : ℕ) (table w : List ℕ) where
 -- ---- a match at the first entry
 
 module _ (b e : ℕ) where
-  pub hit_here : b + 1 ≡ e → first_hit (At b) e ≡ e
+  pub hit_here : b + 1 ≡ e → first_hit (Ok (At b)) e ≡ e
   unfolding first_hit
   hit_here q = rw (eq-eqb (b + 1) e q)
 
-  pub hit_other : (b + 1 ≡ e → ⊥) → first_hit (At b) e ≡ 0
+  pub hit_other : (b + 1 ≡ e → ⊥) → first_hit (Ok (At b)) e ≡ 0
   unfolding first_hit
   hit_other n = rw (ne_eqb (b + 1) e n)
 
-pub hit_unknown : (s e : ℕ) → first_hit (Unknown s) e ≡ 0
+pub hit_unknown : (s e : ℕ) → first_hit (Ok (Unknown s)) e ≡ 0
 unfolding first_hit
 hit_unknown s e = refl
 
-pub hit_damaged : (e : ℕ) → first_hit Damaged e ≡ 0
+pub hit_refused : (r : Refusal) (e : ℕ) → first_hit (Err r) e ≡ 0
 unfolding first_hit
-hit_damaged e = refl
+hit_refused r e = refl
 
 -- ---- the whole search
 
 module _ (a : List ℕ) (used : ℕ) (table w : List ℕ) where
   -- without slots every term is unknown
-  pub search-none : slots table ≡ 0 → search a used table w ≡ Unknown 0
+  pub search-none : slots table ≡ 0 → search a used table w ≡ Ok (Unknown 0)
   unfolding search
   search-none e = rw (eq-eqb (slots table) 0 e)
 
@@ -209,21 +212,21 @@ module _ (a : List ℕ) (used : ℕ) (table w : List ℕ) where
   search-some h = rw (ne_eqb (slots table) 0 (λ e. omega arith))
 
   -- a term found has a used block that holds its name
-  pub search-at : (b : ℕ) → search a used table w ≡ At b → Stands a used w b
+  pub search-at : (b : ℕ) → search a used table w ≡ Ok (At b) → Stands a used w b
   search-at b e =
       by-eq (slots table) 0
       (λ n. let z : ◌≡◌ {A = ℕ} 0 1 = cc (search-none n) in absurd (omega arith))
       (λ n. from_at a used table w (slots table) (fnv1a w % slots table) b (sym (search-some (omega arith)) ∙ e))
 
   -- the slot of an unknown term is empty
-  pub search_unknown : (s : ℕ) → 0 < slots table → search a used table w ≡ Unknown s → (s < slots table) × (get_or table s 0 ≡ 0)
+  pub search_unknown : (s : ℕ) → 0 < slots table → search a used table w ≡ Ok (Unknown s) → (s < slots table) × (get_or table s 0 ≡ 0)
   search_unknown s h e =
       let v : Vacant (slots table) table (slots table) (fnv1a w % slots table) s
       = from_unknown a used table w (slots table) (fnv1a w % slots table) s (mod-lt (fnv1a w) h) (sym (search-some h) ∙ e) in
       (v.inside, v.empty)
 
   -- a first entry that leads to a used block with the name ends the search
-  pub search-first : (e : ℕ) → e ≡ first_entry table (fnv1a w) → 0 < e → e ≤ used → name_of a (e - 1) ≡ w → search a used table w ≡ At (e - 1)
+  pub search-first : (e : ℕ) → e ≡ first_entry table (fnv1a w) → 0 < e → e ≤ used → name_of a (e - 1) ≡ w → search a used table w ≡ Ok (At (e - 1))
   search-first e p low high named =
       by-eq (slots table) 0
       (λ n. let z : e ≡ 0 = p ∙ first-none table (fnv1a w) n in absurd (omega arith))
@@ -235,15 +238,15 @@ module _ (a : List ℕ) (used : ℕ) (table w : List ℕ) where
       ∙ rw (q, ne_eqb e 0 (λ x. omega arith), lt-ltb (e - 1) used (omega arith), eq_same (name_of a (e - 1)) w named))
 
   -- a search that ended at its first entry: what it found
-  pub hit_found : (e : ℕ) → e ≡ first_hit (search a used table w) (first_entry table (fnv1a w)) → 0 < e → (search a used table w ≡ At (e - 1)) × (e ≡ first_entry table (fnv1a w))
+  pub hit_found : (e : ℕ) → e ≡ first_hit (search a used table w) (first_entry table (fnv1a w)) → 0 < e → (search a used table w ≡ Ok (At (e - 1))) × (e ≡ first_entry table (fnv1a w))
   hit_found e p h = go (search a used table w) refl p
     where
-      at : (b : ℕ) → search a used table w ≡ At b → b + 1 ≡ first_entry table (fnv1a w) → e ≡ first_entry table (fnv1a w) → (search a used table w ≡ At (e - 1)) × (e ≡ first_entry table (fnv1a w))
+      at : (b : ℕ) → search a used table w ≡ Ok (At b) → b + 1 ≡ first_entry table (fnv1a w) → e ≡ first_entry table (fnv1a w) → (search a used table w ≡ Ok (At (e - 1))) × (e ≡ first_entry table (fnv1a w))
       at b q i p =
           let z : b ≡ e - 1 = omega arith in
           (rw (← z) q, p)
 
-      go : (x : Found) → search a used table w ≡ x → e ≡ first_hit x (first_entry table (fnv1a w)) → (search a used table w ≡ At (e - 1)) × (e ≡ first_entry table (fnv1a w))
-      go (At b) q p = by-eq (b + 1) (first_entry table (fnv1a w)) (λ i. at b q i (p ∙ hit_here b _ i)) (λ n. absurd (omega (arith, p ∙ hit_other b _ n)))
-      go (Unknown s) q p = absurd (omega (arith, p ∙ hit_unknown s _))
-      go Damaged q p = absurd (omega (arith, p ∙ hit_damaged _))
+      go : (x : Result Found Refusal) → search a used table w ≡ x → e ≡ first_hit x (first_entry table (fnv1a w)) → (search a used table w ≡ Ok (At (e - 1))) × (e ≡ first_entry table (fnv1a w))
+      go (Ok (At b)) q p = by-eq (b + 1) (first_entry table (fnv1a w)) (λ i. at b q i (p ∙ hit_here b _ i)) (λ n. absurd (omega (arith, p ∙ hit_other b _ n)))
+      go (Ok (Unknown s)) q p = absurd (omega (arith, p ∙ hit_unknown s _))
+      go (Err r) q p = absurd (omega (arith, p ∙ hit_refused r _))

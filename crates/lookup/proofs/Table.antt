@@ -2,6 +2,7 @@
 -- Assumes nothing.
 use mathlib.Core.Path.{◌≡◌, refl, sym, ap, ◌∙◌}
 use mathlib.Core.Logic.{◌⊎◌, inl, inr}
+use Rattle.std.specs.Prelude.{Ok}
 use mathlib.Core.List.{List, [], ◌∷◌, ◌++◌}
 use Prim.Native.Nat.{ℕ, zero, suc, ◌+◌, ◌-◌, ◌/◌, ◌%◌, ◌≤◌, ◌<◌}
 use native.Mathlib.Nat.{mod-lt}
@@ -100,7 +101,7 @@ Lacks ks w = (i : ℕ) → i < length ks → (nth ks i).name ≡ w → ⊥
 -- an empty slot that answers the search for it
 pub record Open (a : List ℕ) (used : ℕ) (table w : List ℕ) : Type 0 where
   pub slot : ℕ
-  pub answer : sought a used table w ≡ Unknown slot
+  pub answer : sought a used table w ≡ Ok (Unknown slot)
   pub inside : slot < slots table
   pub empty : get_or table slot 0 ≡ 0
 
@@ -112,12 +113,12 @@ module _ (a : List ℕ) (used : ℕ) (table w : List ℕ) (some : 0 < slots tabl
   begins : sought a used table w ≡ from a used table w (slots table) (first table w)
   begins = search-some a used table w some
 
-  vacant_met : (s : ℕ) → sought a used table w ≡ Unknown s → Vacant (slots table) table (slots table) (first table w) s
+  vacant_met : (s : ℕ) → sought a used table w ≡ Ok (Unknown s) → Vacant (slots table) table (slots table) (first table w) s
   vacant_met s e = from_unknown a used table w (slots table) (first table w) s (mod-lt (fnv1a w) some) (sym begins ∙ e)
 
-  opened : (s : ℕ) × (from a used table w (slots table) (first table w) ≡ Unknown s) → Open a used table w
+  opened : (s : ℕ) × (from a used table w (slots table) (first table w) ≡ Ok (Unknown s)) → Open a used table w
   opened m =
-      let e : sought a used table w ≡ Unknown m.0 = begins ∙ m.1 in
+      let e : sought a used table w ≡ Ok (Unknown m.0) = begins ∙ m.1 in
       let v : Vacant (slots table) table (slots table) (first table w) m.0 = vacant_met m.0 e in
       record { slot = m.0; answer = e; inside = v.inside; empty = v.empty }
 
@@ -140,27 +141,28 @@ module _ {a : List ℕ} {used : ℕ} {table : List ℕ} {ks : List Known} (tab :
 
   -- the search for term i: a filled slot answers with its head or is passed
   at_filled : (i : ℕ) → i < length ks → (left s : ℕ) → s < slots table → (get_or table s 0 ≡ 0 → ⊥)
-      → ((name_of a (get_or table s 0 - 1) ≡ (nth ks i).name → ⊥) → from a used table (nth ks i).name left (next_slot (slots table) s) ≡ At (nth ks i).head)
-      → from a used table (nth ks i).name (suc left) s ≡ At (nth ks i).head
+      → ((name_of a (get_or table s 0 - 1) ≡ (nth ks i).name → ⊥) → from a used table (nth ks i).name left (next_slot (slots table) s) ≡ Ok (At (nth ks i).head))
+      → from a used table (nth ks i).name (suc left) s ≡ Ok (At (nth ks i).head)
   at_filled i l left s h n further = go (filled_slot s h n) (step a used table (nth ks i).name left s)
     where
-      go : Filled s → Step a used table (nth ks i).name left s → from a used table (nth ks i).name (suc left) s ≡ At (nth ks i).head
+      go : Filled s → Step a used table (nth ks i).name left s → from a used table (nth ks i).name (suc left) s ≡ Ok (At (nth ks i).head)
       go f (vacant z q) = absurd (n z)
       go f (unused m g q) = absurd (omega (arith, (filled_stands f).below))
       go f (found m e q) =
           let z : f.index ≡ i = tab.apart f.index i f.in_range l (sym (filled_stands f).named ∙ e.named) in
-          q ∙ ap At (f.is ∙ ap (λ (j : ℕ). (nth ks j).head) z)
+          let same : get_or table s 0 - 1 ≡ (nth ks i).head = f.is ∙ ap (λ (j : ℕ). (nth ks j).head) z in
+          cc
       go f (passed m e q) = q ∙ further e
 
   on_way : (i : ℕ) → i < length ks → {left s k : ℕ} → s < slots table → get_or table k 0 ≡ (nth ks i).head + 1 → Way (slots table) table left s k
-      → from a used table (nth ks i).name left s ≡ At (nth ks i).head
+      → from a used table (nth ks i).name left s ≡ Ok (At (nth ks i).head)
   on_way i l h v (here {left} {k}) =
       let e : get_or table k 0 - 1 ≡ (nth ks i).head = omega arith in
       at_filled i l left k h (λ z. omega arith) (λ m. absurd (m (rw e (tab.stands i l).named)))
   on_way i l h v (on {left} {s} {k} n w) = at_filled i l left s h n (λ m. on_way i l (next_lt (slots table) s h) v w)
 
   -- the search for a term of the table finds its head
-  pub known : (i : ℕ) → i < length ks → sought a used table (nth ks i).name ≡ At (nth ks i).head
+  pub known : (i : ℕ) → i < length ks → sought a used table (nth ks i).name ≡ Ok (At (nth ks i).head)
   known i l =
       let some : 0 < slots table = omega (arith, tab.most) in
       let r : Reached table (nth ks i) = tab.reached i l in
@@ -190,13 +192,13 @@ module _ {a : List ℕ} {used : ℕ} {table : List ℕ} {ks : List Known} (tab :
         plain q o (inl x) = inl (omega arith, omega arith)
         plain q o (inr x) = inr (omega arith)
 
-    ends : (left s : ℕ) → s < slots table → Ahead left s → (k : ℕ) × (from a used table w left s ≡ Unknown k)
+    ends : (left s : ℕ) → s < slots table → Ahead left s → (k : ℕ) × (from a used table w left s ≡ Ok (Unknown k))
     ends zero s h (inl x) = absurd (omega arith)
     ends zero s h (inr x) = absurd (omega arith)
     ends (suc left) s h x = go (step a used table w left s) (λ n. ends left (next_slot (slots table) s) (next_lt (slots table) s h) (ahead-next left s h n x))
       where
-        go : Step a used table w left s → ((get_or table s 0 ≡ 0 → ⊥) → (k : ℕ) × (from a used table w left (next_slot (slots table) s) ≡ Unknown k))
-            → (k : ℕ) × (from a used table w (suc left) s ≡ Unknown k)
+        go : Step a used table w left s → ((get_or table s 0 ≡ 0 → ⊥) → (k : ℕ) × (from a used table w left (next_slot (slots table) s) ≡ Ok (Unknown k)))
+            → (k : ℕ) × (from a used table w (suc left) s ≡ Ok (Unknown k))
         go (vacant z q) ih = (s, q)
         go (unused n g q) ih = absurd (omega (arith, (filled_stands (filled_slot s h n)).below))
         go (found n m q) ih =
@@ -312,7 +314,7 @@ module _ {a : List ℕ} {used : ℕ} {table : List ℕ} {ks : List Known} (tab :
 -- a new name is entered, its head in the slot that its search gave, be it in this arena or in one before
 pub tab_enter : {a : List ℕ} {used : ℕ} {table : List ℕ} {ks : List Known} → Tab a used table ks → (k : Known)
     → Lacks ks k.name → Stands a used k.name k.head → length ks < slots table / 2
-    → (a₀ : List ℕ) (used₀ s : ℕ) → sought a₀ used₀ table k.name ≡ Unknown s
+    → (a₀ : List ℕ) (used₀ s : ℕ) → sought a₀ used₀ table k.name ≡ Ok (Unknown s)
     → Tab a used (enter table s k.head) (ks ++ (k ∷ []))
 tab_enter {table = table} tab k new stands-new room a₀ used₀ s e =
     entered tab k new stands-new room s (vacant_met a₀ used₀ table k.name (omega arith) s e)

@@ -44,7 +44,13 @@ fn holds_name(arena: &[u8], b: u32, name: &[u8]) -> bool
 
 // The search for a folded term: from the slot of its hash, one slot on and wrapping, to a match or an empty slot. Refused as damaged where a slot leads
 // to no used block, or all slots are filled and none is a match.
-pub fn find(arena: &[u8], used: u32, table: &[u32], name: &[u8], hash: u32) -> Result<Found, Refusal>
+pub fn find(
+    arena: &[u8],
+    used: u32,
+    table: &[u32],
+    name: &[u8],
+    hash: u32,
+) -> Result<Found, Refusal>
     requires { (place used ≤ length arena.now) × (length name.now ≤ max_term) × (hash ≡ fnv1a name.now) }
     ensures { result ≡ search arena.now used table.now name.now }
 {
