@@ -9,11 +9,26 @@ use native.Mathlib.Numerals.{add-one}
 use lib.ListN.{length, take, drop, get_or, length-append}
 use lib.Seq.{drop-cons, drop-append_seam, take-append_seam, drop-drop}
 use borrow.Author.Tests.{lt-ltb, le-ltb, le-leb, lt-leb}
-use Rattle.postings.specs.declared.Value.TheVariants.{Number, NoValue}
-use Rattle.postings.specs.declared.Decoded.TheVariants.{Posting, Rejected}
-use Rattle.postings.specs.Coding.{threshold, max_gap, max_count, max_first, max_second, vbyte, code, value, at_most, onto, second, first, decoded}
+use Rattle.std.specs.Prelude.{None}
+use Rattle.postings.specs.declared.Value.{Value}
+use Rattle.postings.specs.declared.Decoded.{Decoded}
+use Rattle.postings.specs.Coding.{threshold, max_gap, max_count, max_first, max_second, vbyte, code, valued, posting, value, at_most, onto, second, first, decoded}
 use Rattle.basics.proofs.Cases.{by-lt}
 use Rattle.postings.proofs.Values.{value-last, value_more, onto-number, value-vbyte, Front, View, view}
+
+-- ---- what is found says which numbers were found
+
+pub valued_same : {v l v' l' : ℕ} → valued v l ≡ valued v' l' → (v ≡ v') × (l ≡ l')
+valued_same {v} {l} {v'} {l'} e =
+    let r : ◌≡◌ {A = Value} (record { value = v; length = l }) (record { value = v'; length = l' }) = cc in
+    (ap (λ (x : Value). x.value) r, ap (λ (x : Value). x.length) r)
+
+pub posting_same : {g f l g' f' l' : ℕ} → posting g f l ≡ posting g' f' l' → (g ≡ g') × (f ≡ f') × (l ≡ l')
+posting_same {g} {f} {l} {g'} {f'} {l'} e =
+    let r : ◌≡◌ {A = Decoded} (record { gap = g; count = f; length = l }) (record { gap = g'; count = f'; length = l' }) = cc in
+    (ap (λ (x : Decoded). x.gap) r, ap (λ (x : Decoded). x.count) r, ap (λ (x : Decoded). x.length) r)
+
+-- ---- the steps of coding and decoding
 
 pub code_low : (g f : ℕ) → f < threshold → code g f ≡ vbyte ((g - 1) * threshold + f)
 unfolding code
@@ -26,63 +41,63 @@ code_high g f h = rw (le-ltb f threshold h)
 pub length_high : (g f : ℕ) → threshold ≤ f → length (code g f) ≡ length (vbyte (g * threshold)) + length (vbyte (f - 3))
 length_high g f h = rw (code_high g f h, length-append)
 
-pub at_most_lem : (m v l : ℕ) → v ≤ m → at_most m (Number v l) ≡ Number v l
+pub at_most_lem : (m v l : ℕ) → v ≤ m → at_most m (valued v l) ≡ valued v l
 unfolding at_most
 at_most_lem m v l h = rw (le-leb v m h)
 
-pub over : (m v l : ℕ) → m < v → at_most m (Number v l) ≡ NoValue
+pub over : (m v l : ℕ) → m < v → at_most m (valued v l) ≡ None
 unfolding at_most
 over m v l h = rw (lt-leb v m h)
 
-pub none : (m : ℕ) → at_most m NoValue ≡ NoValue
+pub none : (m : ℕ) → at_most m None ≡ None
 unfolding at_most
 none m = refl
 
-pub first_low : (s : List ℕ) (v l : ℕ) → 0 < v % threshold → first s (Number v l) ≡ Posting (v / threshold + 1) (v % threshold) l
+pub first_low : (s : List ℕ) (v l : ℕ) → 0 < v % threshold → first s (valued v l) ≡ posting (v / threshold + 1) (v % threshold) l
 unfolding first
 first_low s v l h = rw (lt-ltb 0 (v % threshold) h)
 
-pub first_high : (s : List ℕ) (v l : ℕ) → v % threshold ≡ 0 → first s (Number v l) ≡ second (v / threshold) l (at_most max_second (value (drop l s)))
+pub first_high : (s : List ℕ) (v l : ℕ) → v % threshold ≡ 0 → first s (valued v l) ≡ second (v / threshold) l (at_most max_second (value (drop l s)))
 unfolding first
 first_high s v l h = rw (le-ltb 0 (v % threshold) (omega arith))
 
-pub decoded-none : (s : List ℕ) → at_most max_first (value s) ≡ NoValue → decoded s ≡ Rejected
+pub decoded-none : (s : List ℕ) → at_most max_first (value s) ≡ None → decoded s ≡ None
 unfolding decoded first
 decoded-none s e = rw e
 
-pub decoded_low : (s : List ℕ) (v l : ℕ) → at_most max_first (value s) ≡ Number v l → 0 < v % threshold → decoded s ≡ Posting (v / threshold + 1) (v % threshold) l
+pub decoded_low : (s : List ℕ) (v l : ℕ) → at_most max_first (value s) ≡ valued v l → 0 < v % threshold → decoded s ≡ posting (v / threshold + 1) (v % threshold) l
 unfolding decoded
 decoded_low s v l e h = rw e (first_low s v l h)
 
-pub decoded_high : (s : List ℕ) (v l : ℕ) → at_most max_first (value s) ≡ Number v l → v % threshold ≡ 0
+pub decoded_high : (s : List ℕ) (v l : ℕ) → at_most max_first (value s) ≡ valued v l → v % threshold ≡ 0
     → decoded s ≡ second (v / threshold) l (at_most max_second (value (drop l s)))
 unfolding decoded
 decoded_high s v l e h = rw e (first_high s v l h)
 
-pub second-number : (g l w m : ℕ) → second g l (Number w m) ≡ Posting g (w + 3) (l + m)
+pub second-number : (g l w m : ℕ) → second g l (valued w m) ≡ posting g (w + 3) (l + m)
 unfolding second
 second-number g l w m = refl
 
-pub second_none : (g l : ℕ) → second g l NoValue ≡ Rejected
+pub second_none : (g l : ℕ) → second g l None ≡ None
 unfolding second
 second_none g l = refl
 
 -- ---- the short codes
 
 -- one byte below 128 that 4 does not divide
-decoded-one : (b : ℕ) (s : List ℕ) → b < 128 → 0 < b % threshold → decoded (b ∷ s) ≡ Posting (b / threshold + 1) (b % threshold) 1
+decoded-one : (b : ℕ) (s : List ℕ) → b < 128 → 0 < b % threshold → decoded (b ∷ s) ≡ posting (b / threshold + 1) (b % threshold) 1
 decoded-one b s h p = decoded_low (b ∷ s) b 1 (ap (at_most max_first) (value-last b s (omega arith) h) ∙ at_most_lem max_first b 1 (omega arith)) p
 
 module _ (b d : ℕ) (s : List ℕ) (p : 0 < d) (h : d < 128) where
   -- a value of one byte that 4 divides, and a count that takes one
-  decoded_pair : 0 < b → b < 128 → b % threshold ≡ 0 → decoded (b ∷ d ∷ s) ≡ Posting (b / threshold) (d + 3) 2
+  decoded_pair : 0 < b → b < 128 → b % threshold ≡ 0 → decoded (b ∷ d ∷ s) ≡ posting (b / threshold) (d + 3) 2
   decoded_pair q k z =
       decoded_high (b ∷ d ∷ s) b 1 (ap (at_most max_first) (value-last b (d ∷ s) q k) ∙ at_most_lem max_first b 1 (omega arith)) z
       ∙ ap (second (b / threshold) 1) (ap (at_most max_second) (value-last d s p h) ∙ at_most_lem max_second d 1 (omega arith))
       ∙ second-number (b / threshold) 1 d 1
 
   -- a value of two bytes that 4 does not divide
-  decoded_two : 128 ≤ b → b < 256 → 0 < b % threshold → decoded (b ∷ d ∷ s) ≡ Posting ((b - 128 + 128 * d) / threshold + 1) (b % threshold) 2
+  decoded_two : 128 ≤ b → b < 256 → 0 < b % threshold → decoded (b ∷ d ∷ s) ≡ posting ((b - 128 + 128 * d) / threshold + 1) (b % threshold) 2
   decoded_two q k z =
       let v : ℕ = b - 128 + 128 * d in
       let e : v % threshold ≡ b % threshold = omega arith in
@@ -96,7 +111,7 @@ module _ (s : List ℕ) (at : ℕ) (i : at < length s) where
   abbrev b : ℕ
   b = get_or s at 0
 
-  pub at_one : b < 128 → 0 < b % threshold → decoded (drop at s) ≡ Posting (b / threshold + 1) (b % threshold) 1
+  pub at_one : b < 128 → 0 < b % threshold → decoded (drop at s) ≡ posting (b / threshold + 1) (b % threshold) 1
   at_one h p = rw (drop-cons s at 0 i) (decoded-one b (drop (suc at) s) h p)
 
   module _ (j : at + 1 < length s) where
@@ -107,14 +122,14 @@ module _ (s : List ℕ) (at : ℕ) (i : at < length s) where
     both = drop-cons s at 0 i ∙ ap (λ (r : List ℕ). b ∷ r) (ap (λ (k : ℕ). drop k s) (sym (add-one at)) ∙ drop-cons s (at + 1) 0 j)
 
     module _ (p : 0 < d) (h : d < 128) where
-      pub at_pair : 0 < b → b < 128 → b % threshold ≡ 0 → decoded (drop at s) ≡ Posting (b / threshold) (d + 3) 2
+      pub at_pair : 0 < b → b < 128 → b % threshold ≡ 0 → decoded (drop at s) ≡ posting (b / threshold) (d + 3) 2
       at_pair q k z = ap decoded both ∙ decoded_pair b d (drop (suc (at + 1)) s) p h q k z
 
-      pub at_two : 128 ≤ b → b < 256 → 0 < b % threshold → decoded (drop at s) ≡ Posting ((b - 128 + 128 * d) / threshold + 1) (b % threshold) 2
+      pub at_two : 128 ≤ b → b < 256 → 0 < b % threshold → decoded (drop at s) ≡ posting ((b - 128 + 128 * d) / threshold + 1) (b % threshold) 2
       at_two q k z = ap decoded both ∙ decoded_two b d (drop (suc (at + 1)) s) p h q k z
 
 -- what a value that was read within a limit says
-pub read_number : (m : ℕ) (s : List ℕ) (v l : ℕ) → at_most m (value s) ≡ Number v l → (v ≤ m) × Front s v l
+pub read_number : (m : ℕ) (s : List ℕ) (v l : ℕ) → at_most m (value s) ≡ valued v l → (v ≤ m) × Front s v l
 read_number m s v l e = go (view s)
   where
     go : View s → (v ≤ m) × Front s v l
@@ -123,16 +138,15 @@ read_number m s v l e = go (view s)
         by-lt m t.0
         (λ h. let z : ◌≡◌ {A = ℕ} 0 1 = cc (over m t.0 t.1 h, t.2) in absurd (omega arith))
         (λ h.
-        let a : t.0 ≡ v = cc (at_most_lem m t.0 t.1 h, t.2) in
-        let b : t.1 ≡ l = cc (at_most_lem m t.0 t.1 h, t.2) in
-        (omega arith, rw (a, b) at t.3))
+        let same : (t.0 ≡ v) × (t.1 ≡ l) = valued_same (sym (ap (at_most m) t.2 ∙ at_most_lem m t.0 t.1 h) ∙ e) in
+        (omega arith, rw (same.0, same.1) at t.3))
 
 pub front_within : {s : List ℕ} {v l : ℕ} → Front s v l → l ≤ length s
 front_within {s} {v} {l} t = omega (arith, t.len, simp length-append at (ap length t.bytes))
 
 -- decoding a coded posting, with anything after it, returns it and its length
 pub decode-code : (g f : ℕ) → 0 < g → g ≤ max_gap → 0 < f → f ≤ max_count → (s : List ℕ)
-    → decoded (code g f ++ s) ≡ Posting g f (length (code g f))
+    → decoded (code g f ++ s) ≡ posting g f (length (code g f))
 unfolding decoded second
 decode-code g f pg hg pf hf s =
     by-lt f threshold
@@ -161,7 +175,7 @@ pub record Held (s : List ℕ) (g f l : ℕ) : Type 0 where
   pub bytes : s ≡ code g f ++ drop l s
 
 abbrev pub Seen : List ℕ → Type 0
-Seen s = (decoded s ≡ Rejected) ⊎ ((g : ℕ) × (f : ℕ) × (l : ℕ) × (decoded s ≡ Posting g f l) × Held s g f l)
+Seen s = (decoded s ≡ None) ⊎ ((g : ℕ) × (f : ℕ) × (l : ℕ) × (decoded s ≡ posting g f l) × Held s g f l)
 
 held_low : (s : List ℕ) (v l : ℕ) → Front s v l → v ≤ max_first → 0 < v % threshold → Held s (v / threshold + 1) (v % threshold) l
 held_low s v l t h p =
@@ -214,19 +228,17 @@ pub seen : (s : List ℕ) → Seen s
 seen s = seen_first s (view s)
 
 -- a posting that was decoded is held by the bytes
-pub decoded_held : (s : List ℕ) (g f l : ℕ) → decoded s ≡ Posting g f l → Held s g f l
+pub decoded_held : (s : List ℕ) (g f l : ℕ) → decoded s ≡ posting g f l → Held s g f l
 decoded_held s g f l e = go (seen s)
   where
     go : Seen s → Held s g f l
     go (inl n) = let z : ◌≡◌ {A = ℕ} 0 1 = cc in absurd (omega arith)
     go (inr t) =
-        let a : t.0 ≡ g = cc t.3 in
-        let b : t.1 ≡ f = cc t.3 in
-        let d : t.2 ≡ l = cc t.3 in
-        rw (a, b, d) at t.4
+        let same : (t.0 ≡ g) × (t.1 ≡ f) × (t.2 ≡ l) = posting_same (sym t.3 ∙ e) in
+        rw (same.0, same.1, same.2) at t.4
 
 -- coding a decoded posting returns the bytes consumed
-pub code_decode : (s : List ℕ) (g f l : ℕ) → decoded s ≡ Posting g f l → code g f ≡ take l s
+pub code_decode : (s : List ℕ) (g f l : ℕ) → decoded s ≡ posting g f l → code g f ≡ take l s
 code_decode s g f l e =
     let h : Held s g f l = decoded_held s g f l e in
     sym (ap (take l) h.bytes ∙ rw h.len (take-append_seam (code g f) _))

@@ -1,4 +1,4 @@
--- What callers use of `code` and `decoded`, beside `decode-code`, `decoded_held` and `code_decode` of `Posting`.
+-- What callers use of `code` and `decoded`, beside `decode-code`, `decoded_held` and `code_decode` of `posting`.
 -- Assumes nothing.
 use mathlib.Core.Path.{◌≡◌, refl, sym, ap, ◌∙◌}
 use mathlib.Core.List.{List, [], ◌∷◌, ◌++◌}
@@ -6,8 +6,8 @@ use Prim.Native.Nat.{ℕ, zero, suc, ◌+◌, ◌-◌, ◌*◌, ◌%◌, ◌^◌
 use native.Mathlib.Omega.{arith}
 use lib.ListN.{length, drop, get_or, replicate, length-append}
 use lib.Seq.{drop-append_seam}
-use Rattle.postings.specs.declared.Decoded.TheVariants.{Posting, Rejected}
-use Rattle.postings.specs.Coding.{vbyte, code, value, at_most, first, decoded}
+use Rattle.std.specs.Prelude.{None}
+use Rattle.postings.specs.Coding.{vbyte, code, posting, value, at_most, first, decoded}
 use Rattle.basics.proofs.Cases.{by-lt}
 use Rattle.postings.proofs.Values.{by_bytes, last, more, length_pos, length_le}
 use Rattle.postings.proofs.Codes.{code_low, code_high, length_high}
@@ -48,21 +48,21 @@ bytes-code g f pg pf =
 -- ---- decoding
 
 -- nothing is decoded at the end, nor at a null byte
-pub decoded-nil : decoded [] ≡ Rejected
+pub decoded-nil : decoded [] ≡ None
 unfolding decoded first at_most value
 decoded-nil = refl
 
-pub decoded_null : (s : List ℕ) → decoded (0 ∷ s) ≡ Rejected
+pub decoded_null : (s : List ℕ) → decoded (0 ∷ s) ≡ None
 unfolding decoded first at_most value
 decoded_null s = refl
 
 -- decoding finds the posting whose code stands at the front: with `decoded_held`, exactly that one
-pub decoded-from : {s : List ℕ} {g f l : ℕ} → Held s g f l → decoded s ≡ Posting g f l
+pub decoded-from : {s : List ℕ} {g f l : ℕ} → Held s g f l → decoded s ≡ posting g f l
 decoded-from {s} {g} {f} {l} h =
-    ap decoded h.bytes ∙ decode-code g f h.gap.0 h.gap.1 h.count.0 h.count.1 (drop l s) ∙ ap (Posting g f) (sym h.len)
+    ap decoded h.bytes ∙ decode-code g f h.gap.0 h.gap.1 h.count.0 h.count.1 (drop l s) ∙ ap (posting g f) (sym h.len)
 
 -- a posting that is decoded takes at least one byte and lies within the part
-pub decoded-within : (s : List ℕ) {g f l : ℕ} → decoded s ≡ Posting g f l → (0 < l) × (l ≤ length s)
+pub decoded-within : (s : List ℕ) {g f l : ℕ} → decoded s ≡ posting g f l → (0 < l) × (l ≤ length s)
 decoded-within s {g} {f} {l} e =
     let h : Held s g f l = decoded_held s g f l e in
     omega (arith, h.len, length-code_pos g f, simp length-append at (ap length h.bytes))
@@ -80,6 +80,6 @@ code-head g f pg pf s = head (bytes-code g f pg pf) (length-code_pos g f)
     head (some p k b) h = p
 
 -- nothing is decoded in cleared bytes
-pub decoded_zeros : (k : ℕ) → decoded (replicate k 0) ≡ Rejected
+pub decoded_zeros : (k : ℕ) → decoded (replicate k 0) ≡ None
 decoded_zeros zero = decoded-nil
 decoded_zeros (suc k) = decoded_null (replicate k 0)

@@ -11,33 +11,33 @@ use lib.ListN.{length, get_or, drop, drop_of_length-le}
 use lib.Seq.{drop-cons}
 use lib.Pow.{pow-add, pow_mono}
 use Rattle.postings.specs.declared.Value.{Value}
-use Rattle.postings.specs.declared.Value.TheVariants.{Number, NoValue}
-use Rattle.postings.specs.Coding.{onto, value, at_most}
+use Rattle.std.specs.Prelude.{Option, Some, None}
+use Rattle.postings.specs.Coding.{valued, onto, value, at_most}
 use Rattle.postings.proofs.Values.{value-last, value_more, value-zero, View, view}
 use Rattle.postings.proofs.Codes.{over}
 
 -- a value after j bytes that said a
-abbrev pub after : ℕ → ℕ → ℕ → Value → Value
-after a w j (Number v l) = Number (a + v * w) (j + l)
-after a w j NoValue = NoValue
+abbrev pub after : ℕ → ℕ → ℕ → Option Value → Option Value
+after a w j (Some n) = valued (a + n.value * w) (j + n.length)
+after a w j None = None
 
-after_onto : (a w j b : ℕ) (x : Value) → after a w j (onto b x) ≡ after (a + (b - 128) * w) (w * 128) (j + 1) x
+after_onto : (a w j b : ℕ) (x : Option Value) → after a w j (onto b x) ≡ after (a + (b - 128) * w) (w * 128) (j + 1) x
 unfolding onto
-after_onto a w j b NoValue = refl
-after_onto a w j b (Number v l) =
-    let p : a + (b - 128 + 128 * v) * w ≡ a + (b - 128) * w + v * (w * 128) = omega arith in
-    let q : j + (l + 1) ≡ j + 1 + l = omega arith in
+after_onto a w j b None = refl
+after_onto a w j b (Some n) =
+    let p : a + (b - 128 + 128 * n.value) * w ≡ a + (b - 128) * w + n.value * (w * 128) = omega arith in
+    let q : j + (n.length + 1) ≡ j + 1 + n.length = omega arith in
     rw (p, q)
 
-after_start : (x : Value) → x ≡ after 0 1 0 x
-after_start NoValue = refl
-after_start (Number v l) =
-    let p : 0 + v * 1 ≡ v = omega arith in
-    let q : 0 + l ≡ l = omega arith in
+after_start : (x : Option Value) → x ≡ after 0 1 0 x
+after_start None = refl
+after_start (Some n) =
+    let p : 0 + n.value * 1 ≡ n.value = omega arith in
+    let q : 0 + n.length ≡ n.length = omega arith in
     rw (p, q)
 
 -- a value that is more than 35 bits
-over_long : (most a w j : ℕ) (s : List ℕ) → most < w → View s → at_most most (after a w j (value s)) ≡ NoValue
+over_long : (most a w j : ℕ) (s : List ℕ) → most < w → View s → at_most most (after a w j (value s)) ≡ None
 unfolding at_most
 over_long most a w j s h (inl e) = rw e
 over_long most a w j s h (inr t) =
@@ -64,7 +64,7 @@ module _ {s : List ℕ} {v w i : ℕ} (r : Read s v w i) where
   pub small : w ≤ 268435456
   small = rw r.power (pow_mono {i = 7 * i} {j = 28} (omega (arith, r.few)))
 
-  pub ended : length s ≤ i → value s ≡ NoValue
+  pub ended : length s ≤ i → value s ≡ None
   unfolding value
   ended h = r.is ∙ rw (drop_of_length-le s h)
 
@@ -72,10 +72,10 @@ module _ {s : List ℕ} {v w i : ℕ} (r : Read s v w i) where
     at : drop i s ≡ get_or s i 0 ∷ drop (i + 1) s
     at = rw add-one (drop-cons s i 0 h)
 
-    pub zero_byte : get_or s i 0 ≡ 0 → value s ≡ NoValue
+    pub zero_byte : get_or s i 0 ≡ 0 → value s ≡ None
     zero_byte e = r.is ∙ rw (at, value-zero (get_or s i 0) (drop (i + 1) s) e)
 
-    pub last_byte : 0 < get_or s i 0 → get_or s i 0 < 128 → value s ≡ Number (v + get_or s i 0 * w) (i + 1)
+    pub last_byte : 0 < get_or s i 0 → get_or s i 0 < 128 → value s ≡ valued (v + get_or s i 0 * w) (i + 1)
     last_byte p k = r.is ∙ rw (at, value-last (get_or s i 0) (drop (i + 1) s) p k)
 
     module _ (p : 128 ≤ get_or s i 0) (k : get_or s i 0 < 256) where
@@ -90,7 +90,7 @@ module _ {s : List ℕ} {v w i : ℕ} (r : Read s v w i) where
         is = onward;
       }
 
-      pub too_long : i ≡ 4 → (most : ℕ) → most < 2 ^ 35 → at_most most (value s) ≡ NoValue
+      pub too_long : i ≡ 4 → (most : ℕ) → most < 2 ^ 35 → at_most most (value s) ≡ None
       too_long u most m =
           let e : w ≡ 268435456 = r.power ∙ rw u in
           ap (at_most most) onward ∙ over_long most (v + (get_or s i 0 - 128) * w) (w * 128) (i + 1) (drop (i + 1) s) (omega arith) (view (drop (i + 1) s))

@@ -12,8 +12,8 @@ use native.Mathlib.Nat.{mul-suc}
 use lib.Pow.{pow-add, pow_pos, pow_mono}
 use borrow.Author.Tests.{lt-ltb, le-ltb}
 use Rattle.basics.proofs.Cases.{by-lt}
-use Rattle.postings.specs.declared.Value.TheVariants.{Number, NoValue}
-use Rattle.postings.specs.Coding.{groups, vbyte, onto, value, code_length}
+use Rattle.std.specs.Prelude.{None}
+use Rattle.postings.specs.Coding.{groups, vbyte, valued, onto, value, code_length}
 
 -- ---- the two steps of a code
 
@@ -50,7 +50,7 @@ by_bytes P one step n = go n n (omega arith)
 -- ---- reading a value
 
 module _ (b : ℕ) (s : List ℕ) where
-  pub value-last : 0 < b → b < 128 → value (b ∷ s) ≡ Number b 1
+  pub value-last : 0 < b → b < 128 → value (b ∷ s) ≡ valued b 1
   unfolding value
   value-last p h = rw (lt-ltb b 128 h, lt-ltb 0 b p)
 
@@ -58,26 +58,26 @@ module _ (b : ℕ) (s : List ℕ) where
   unfolding value
   value_more p h = rw (le-ltb b 128 p, lt-ltb b 256 h)
 
-  pub value-zero : b ≡ 0 → value (b ∷ s) ≡ NoValue
+  pub value-zero : b ≡ 0 → value (b ∷ s) ≡ None
   unfolding value
   value-zero e = rw e
 
-  pub value-over : 256 ≤ b → value (b ∷ s) ≡ NoValue
+  pub value-over : 256 ≤ b → value (b ∷ s) ≡ None
   unfolding value
   value-over h = rw (le-ltb b 128 (omega arith), le-ltb b 256 h)
 
-pub onto-number : (b v l : ℕ) → onto b (Number v l) ≡ Number (b - 128 + 128 * v) (l + 1)
+pub onto-number : (b v l : ℕ) → onto b (valued v l) ≡ valued (b - 128 + 128 * v) (l + 1)
 unfolding onto
 onto-number b v l = refl
 
-pub onto-none : (b : ℕ) → onto b NoValue ≡ NoValue
+pub onto-none : (b : ℕ) → onto b None ≡ None
 unfolding onto
 onto-none b = refl
 
 -- a value's code, with anything after it, is read as the value
-pub value-vbyte : (n : ℕ) → 0 < n → (s : List ℕ) → value (vbyte n ++ s) ≡ Number n (length (vbyte n))
+pub value-vbyte : (n : ℕ) → 0 < n → (s : List ℕ) → value (vbyte n ++ s) ≡ valued n (length (vbyte n))
 value-vbyte =
-    by_bytes (λ (n : ℕ). 0 < n → (s : List ℕ) → value (vbyte n ++ s) ≡ Number n (length (vbyte n)))
+    by_bytes (λ (n : ℕ). 0 < n → (s : List ℕ) → value (vbyte n ++ s) ≡ valued n (length (vbyte n)))
     (λ n h p s. rw (last n h) (value-last n s p h))
     (λ n h ih p s.
     let m : List ℕ = vbyte (n / 128) in
@@ -93,7 +93,7 @@ pub record Front (s : List ℕ) (v l : ℕ) : Type 0 where
   pub bytes : s ≡ vbyte v ++ drop l s
 
 abbrev pub View : List ℕ → Type 0
-View s = (value s ≡ NoValue) ⊎ ((v : ℕ) × (l : ℕ) × (value s ≡ Number v l) × Front s v l)
+View s = (value s ≡ None) ⊎ ((v : ℕ) × (l : ℕ) × (value s ≡ valued v l) × Front s v l)
 
 vbyte-onto : (b v : ℕ) → 128 ≤ b → b < 256 → 0 < v → vbyte (b - 128 + 128 * v) ≡ b ∷ vbyte v
 vbyte-onto b v h h' p =

@@ -10,9 +10,9 @@ use lib.Dec.{ltb}
 use lib.ListN.{length, drop}
 use borrow.Author.Tests.{lt-ltb, le-ltb}
 use Rattle.basics.proofs.Cases.{by-lt}
-use Rattle.postings.specs.Coding.{decoded}
+use Rattle.std.specs.Prelude.{Option, Some, None}
+use Rattle.postings.specs.Coding.{posting, decoded}
 use Rattle.postings.specs.declared.Decoded.{Decoded}
-use Rattle.postings.specs.declared.Decoded.TheVariants as code
 use Rattle.postings.proofs.Laws.{decoded-within}
 use Rattle.sums.specs.declared.Sum.{Sum}
 use Rattle.sums.specs.Adding.{sum_of, further, add_one, add_from, added_to, Bounded}
@@ -27,12 +27,12 @@ pub record Adds (part : List ℕ) (stop : ℕ) (p : Sum) : Type 0 where
   pub f : ℕ
   pub l : ℕ
   pub before_stop : p.at < stop
-  pub found : decoded (drop p.at part) ≡ code.Posting g f l
+  pub found : decoded (drop p.at part) ≡ posting g f l
 
 -- none does
 pub data Ends (part : List ℕ) (stop : ℕ) (p : Sum) : Type 0 where
   at_stop : stop ≤ p.at → Ends part stop p
-  no_posting : decoded (drop p.at part) ≡ code.Rejected → Ends part stop p
+  no_posting : decoded (drop p.at part) ≡ None → Ends part stop p
 
 -- a loop on its way: from p on it adds up to what was to be added up from p₀ on, and k more postings are enough
 pub record Adding (part : List ℕ) (stop : ℕ) (p₀ p : Sum) : Type 0 where
@@ -44,9 +44,9 @@ module _ (part : List ℕ) (stop : ℕ) where
   pub adds-or-ends : (p : Sum) → Adds part stop p ⊎ Ends part stop p
   adds-or-ends p = by-lt p.at stop (λ h. go (decoded (drop p.at part)) refl h) (λ h. inr (at_stop h))
     where
-      go : (x : Decoded) → decoded (drop p.at part) ≡ x → p.at < stop → Adds part stop p ⊎ Ends part stop p
-      go code.Rejected e h = inr (no_posting e)
-      go (code.Posting g f l) e h = inl (record { g = g; f = f; l = l; before_stop = h; found = e })
+      go : (x : Option Decoded) → decoded (drop p.at part) ≡ x → p.at < stop → Adds part stop p ⊎ Ends part stop p
+      go None e h = inr (no_posting e)
+      go (Some d) e h = inl (record { g = d.gap; f = d.count; l = d.length; before_stop = h; found = e })
 
   pub add-on : (k : ℕ) {p : Sum} (w : Adds part stop p) → add_from (suc k) part stop p ≡ add_from k part stop (further p w.g w.l)
   unfolding add_from add_one
@@ -169,7 +169,7 @@ any-count part stop (suc k) at number c d =
 -- what bounds the number at every offset that is reached, posting by posting, bounds them all
 module _ (part : List ℕ) (reports : ℕ) (P : ℕ → ℕ → Type 0)
     (low : (at n : ℕ) → P at n → n ≤ reports)
-    (on : (at n g f l : ℕ) → P at n → at < length part → decoded (drop at part) ≡ code.Posting g f l → P (at + l) (n + g)) where
+    (on : (at n g f l : ℕ) → P at n → at < length part → decoded (drop at part) ≡ posting g f l → P (at + l) (n + g)) where
   sum_by : (fuel at n j : ℕ) → P at n → (add_from fuel part (length part) (record { at = at; number = n; postings = j })).number ≤ reports
   unfolding add_from
   sum_by zero at n j x = low at n x
@@ -194,7 +194,7 @@ module _ {part : List ℕ} {reports at n : ℕ} (b : Bounded part reports at n) 
   bounded_here = omega (arith, b.last, add_grows part (length part) (length part) (sum_of at n))
 
   -- behind a posting
-  pub bounded_on : {g f l : ℕ} → at < length part → decoded (drop at part) ≡ code.Posting g f l → Bounded part reports (at + l) (n + g)
+  pub bounded_on : {g f l : ℕ} → at < length part → decoded (drop at part) ≡ posting g f l → Bounded part reports (at + l) (n + g)
   unfolding added_to
   bounded_on {g} {f} {l} h e =
       let w : Adds part (length part) (sum_of at n) = record { g = g; f = f; l = l; before_stop = h; found = e } in
