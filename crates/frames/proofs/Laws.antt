@@ -3,7 +3,7 @@
 use mathlib.Core.Path.{◌≡◌, refl, sym, ap}
 use mathlib.Core.Bool.{false}
 use mathlib.Core.List.{List, [], ◌∷◌, ◌++◌, map}
-use Prim.Native.Nat.{ℕ, zero, suc, ◌+◌, ◌≤◌, ◌<◌}
+use Prim.Native.Nat.{ℕ, ◌+◌, ◌≤◌, ◌<◌}
 use native.Mathlib.Omega.{arith}
 use lib.Dec.{ltb, eqb}
 use lib.ListN.{length}
@@ -13,12 +13,13 @@ use Rattle.basics.proofs.Cases.{by-lt}
 use Rattle.basics.proofs.Lists.{or_left, or_right}
 use Rattle.terms.specs.Terms.{max_term}
 use Rattle.terms.proofs.Laws.{term-length, length-folded}
-use Rattle.frames.specs.declared.Cursor.{Cursor}
-use Rattle.frames.specs.declared.Report.TheVariants as report
-use Rattle.frames.specs.declared.Query.TheVariants as query
+use Rattle.refusals.specs.declared.Refusal.{Refusal}
+use Rattle.refusals.specs.Numbers.{number_of}
+use Rattle.frames.specs.declared.Query.{Query}
+use Rattle.frames.specs.Answers.{IsQuery}
 use Rattle.frames.specs.Refusals.{Row, ◌if◌, first_of}
-use Rattle.frames.specs.Frames.{max_body, count_bytes, first_line, first_term, term_at, count_at, past_field, Field, fields, lines, terms, passes_end, wrong_terms, bad_term, zero_count, repeated_term, head_rows, field_rows, report_rows, query_rows, report_refusal, query_refusal, line_at, folded_at, report_as, report_frame, query_start, query_as, query_frame, query_terms}
-use Rattle.frames.proofs.Refusals.{Numbered, numbered, first-empty, first-zero, both_zero, first_le, first_some, first-none}
+use Rattle.frames.specs.Frames.{max_body, count_bytes, first_line, first_term, term_at, count_at, past_field, Field, fields, lines, terms, passes_end, wrong_terms, bad_term, zero_count, repeated_term, head_rows, field_rows, report_rows, query_rows, report_refusal, query_refusal, line_at, folded_at, query_terms}
+use Rattle.frames.proofs.Refusals.{Numbered, numbered, first-empty, first-zero, both_zero, first_le, first_some, first-none, refusal-some}
 use Rattle.frames.proofs.Heads.{head-numbered, headed, Headed}
 use Rattle.frames.proofs.Fields.{fields_end, fields_more, field_here, whole-on}
 use Rattle.frames.proofs.Conditions.{good_here, good_on}
@@ -53,51 +54,12 @@ sound_query k most f z =
     let r₅ = first-zero (5 if bad_term f (terms f)) [] (omega arith) r₄.1 in
     record { right = r₄.0; good = r₅.0 }
 
--- where a check refuses nothing, it tells the number of lines, or the start and where the first term stands
-lines_case : (n : ℕ) (f : List ℕ) (k : ℕ) → report_as n f ≡ report.Lines k → (n ≡ 0) × (k ≡ length (lines f))
-lines_case zero f k e =
-    let q : length (lines f) ≡ k = cc in
-    (refl, sym q)
-lines_case (suc n) f k e = let z : ◌≡◌ {A = ℕ} 0 1 = cc in absurd (omega arith)
+-- a refusal handed out is the frame's, and has a number above 0
+pub report-refused : (f : List ℕ) (r : Refusal) → number_of r ≡ report_refusal f → (report_refusal f ≡ number_of r) × (0 < number_of r)
+report-refused f r e = (sym e, refusal-some r)
 
-pub lines-sound : (f : List ℕ) (k : ℕ) → report_frame f ≡ report.Lines k → (report_refusal f ≡ 0) × (k ≡ length (lines f))
-unfolding report_frame
-lines-sound f k e = lines_case (report_refusal f) f k e
-
-refused_case : (n : ℕ) (f : List ℕ) (r : ℕ) → report_as n f ≡ report.Refused r → (n ≡ r) × (0 < r)
-refused_case zero f r e = let z : ◌≡◌ {A = ℕ} 0 1 = cc in absurd (omega arith)
-refused_case (suc n) f r e =
-    let q : suc n ≡ r = cc in
-    (q, omega arith)
-
--- and where it hands out a refusal, that is the frame's
-pub report-refused : (f : List ℕ) (r : ℕ) → report_frame f ≡ report.Refused r → (report_refusal f ≡ r) × (0 < r)
-unfolding report_frame
-report-refused f r e = refused_case (report_refusal f) f r e
-
-terms_case : (n : ℕ) (f : List ℕ) (start : ℕ) (c : Cursor) → query_as n f ≡ query.Terms start c → (n ≡ 0) × (start ≡ query_start f) × (c.at ≡ first_term)
-terms_case zero f start c e =
-    let first : Cursor = record { at = first_term } in
-    let p : query_start f ≡ start = cc in
-    let q : first ≡ c = cc in
-    (refl, sym p, sym (ap (λ (x : Cursor). x.at) q))
-terms_case (suc n) f start c e = let z : ◌≡◌ {A = ℕ} 0 1 = cc in absurd (omega arith)
-
-pub terms-sound : (k most : ℕ) (f : List ℕ) (start : ℕ) (c : Cursor) → query_frame k most f ≡ query.Terms start c
-    → (query_refusal k most f ≡ 0) × (start ≡ query_start f) × (c.at ≡ first_term)
-unfolding query_frame
-terms-sound k most f start c e = terms_case (query_refusal k most f) f start c e
-
--- and where it refuses, the table does
-query_refused_case : (n : ℕ) (f : List ℕ) (r : ℕ) → query_as n f ≡ query.Refused r → (n ≡ r) × (0 < r)
-query_refused_case zero f r e = let z : ◌≡◌ {A = ℕ} 0 1 = cc in absurd (omega arith)
-query_refused_case (suc n) f r e =
-    let p : suc n ≡ r = cc in
-    (p, omega arith)
-
-pub query_refused : (k most : ℕ) (f : List ℕ) (r : ℕ) → query_frame k most f ≡ query.Refused r → (query_refusal k most f ≡ r) × (0 < r)
-unfolding query_frame
-query_refused k most f r e = query_refused_case (query_refusal k most f) f r e
+pub query_refused : (k most : ℕ) (f : List ℕ) (r : Refusal) → number_of r ≡ query_refusal k most f → (query_refusal k most f ≡ number_of r) × (0 < number_of r)
+query_refused k most f r e = (sym e, refusal-some r)
 
 -- rows behind those of a query: one of the query's decides, or none does
 pub query_first : (k most : ℕ) (f : List ℕ) (rs : List Row) → 0 < query_refusal k most f → first_of (query_rows k most f ++ rs) ≡ query_refusal k most f
@@ -130,17 +92,16 @@ query_some most f e =
     )
 
 -- so whole fields that are terms stand from there on
-pub lines_ready : (f : List ℕ) (k : ℕ) → report_frame f ≡ report.Lines k → (passes_end count_bytes f first_line ≡ false) × (bad_term f (lines f) ≡ false)
-lines_ready f k e =
-    let r : SoundReport f = sound-report f (lines-sound f k e).0 in
+pub lines_ready : (f : List ℕ) → report_refusal f ≡ 0 → (passes_end count_bytes f first_line ≡ false) × (bad_term f (lines f) ≡ false)
+lines_ready f z =
+    let r : SoundReport f = sound-report f z in
     (r.uncut, r.good)
 
-pub terms_ready : (k most : ℕ) (f : List ℕ) (start : ℕ) (c : Cursor) → query_frame k most f ≡ query.Terms start c
-    → (passes_end 0 f c.at ≡ false) × (bad_term f (fields 0 f c.at) ≡ false)
-terms_ready k most f start c e =
-    let s = terms-sound k most f start c e in
-    let q : SoundQuery most f = sound_query k most f s.0 in
-    rw s.2 ((query_uncut most f q.right).1, q.good)
+pub terms_ready : (k most : ℕ) (f : List ℕ) (q : Query) → query_refusal k most f ≡ 0 → IsQuery f q
+    → (passes_end 0 f q.terms.at ≡ false) × (bad_term f (fields 0 f q.terms.at) ≡ false)
+terms_ready k most f q z p =
+    let s : SoundQuery most f = sound_query k most f z in
+    rw p.terms ((query_uncut most f s.right).1, s.good)
 
 -- ---- the line at an offset: its folded term and its count
 

@@ -1,17 +1,18 @@
 -- How the check of a query follows its table.
 -- Assumes nothing.
-use mathlib.Core.Path.{◌≡◌, refl, ap, ◌∙◌}
+use mathlib.Core.Path.{◌≡◌, refl, sym, ◌∙◌}
 use mathlib.Core.Bool.{true, false}
 use mathlib.Core.List.{List, [], ◌∷◌}
-use Prim.Native.Nat.{ℕ, zero, suc, ◌≤◌, ◌<◌}
+use Prim.Native.Nat.{ℕ, ◌≤◌, ◌<◌}
 use native.Mathlib.Omega.{arith}
 use lib.ListN.{length}
 use borrow.Author.Tests.{lt-ltb, le-ltb, eq-eqb, ne_eqb}
-use Rattle.frames.specs.declared.Query.TheVariants as query
+use Rattle.refusals.specs.declared.Refusal.{Refusal}
+use Rattle.refusals.specs.Numbers.{number_of}
 use Rattle.frames.specs.Refusals.{Row, ◌if◌, first_of}
-use Rattle.frames.specs.Frames.{first_term, terms, passes_end, wrong_terms, bad_term, head_rows, query_rows, query_refusal, query_start, query_as, query_frame}
+use Rattle.frames.specs.Frames.{first_term, terms, passes_end, wrong_terms, bad_term, head_rows, query_rows, query_refusal}
 use Rattle.frames.proofs.Heads.{head-numbered}
-use Rattle.frames.proofs.Refusals.{first-empty, first_holds, first_passes, first_some, first-none}
+use Rattle.frames.proofs.Refusals.{first-empty, first_holds, first_passes, first_some, first-none, refusal-some}
 
 -- ---- refusal 4 of a query
 
@@ -41,34 +42,29 @@ module _ (most : ℕ) (f : List ℕ) where
 
 -- ---- the whole table
 
-as_refused : (n : ℕ) (f : List ℕ) → 0 < n → query_as n f ≡ query.Refused n
-as_refused zero f h = absurd (omega arith)
-as_refused (suc n) f h = refl
-
 module _ (k most : ℕ) (f : List ℕ) where
   field_rows : List Row
   field_rows = (4 if wrong_terms most f) ∷ (5 if bad_term f (terms f)) ∷ []
 
-  pub query_head : 0 < first_of (head_rows k f) → query_frame k most f ≡ query.Refused (first_of (head_rows k f))
-  unfolding query_frame query_refusal query_rows
-  query_head h = ap (λ (n : ℕ). query_as n f) (first_some (head_rows k f) _ h) ∙ as_refused (first_of (head_rows k f)) f h
+  -- the head's refusal is the query's
+  pub query_head : (r : Refusal) → number_of r ≡ first_of (head_rows k f) → number_of r ≡ query_refusal k most f
+  unfolding query_refusal query_rows
+  query_head r e = e ∙ sym (first_some (head_rows k f) _ (rw e at (refusal-some r)))
 
   module _ (z : first_of (head_rows k f) ≡ 0) where
     after_head : query_refusal k most f ≡ first_of field_rows
     unfolding query_refusal query_rows field_rows
     after_head = first-none _ (head-numbered k f) z
 
-    pub query_fields : wrong_terms most f ≡ true → query_frame k most f ≡ query.Refused 4
-    unfolding query_frame field_rows
-    query_fields e = ap (λ (n : ℕ). query_as n f) (after_head ∙ first_holds _ _ e)
+    pub query_fields : wrong_terms most f ≡ true → query_refusal k most f ≡ 4
+    unfolding field_rows
+    query_fields e = after_head ∙ first_holds _ _ e
 
     module _ (w : wrong_terms most f ≡ false) where
-      pub query_bad : bad_term f (terms f) ≡ true → query_frame k most f ≡ query.Refused 5
-      unfolding query_frame field_rows
-      query_bad e = ap (λ (n : ℕ). query_as n f) (after_head ∙ first_passes _ _ w ∙ first_holds _ _ e)
+      pub query_bad : bad_term f (terms f) ≡ true → query_refusal k most f ≡ 5
+      unfolding field_rows
+      query_bad e = after_head ∙ first_passes _ _ w ∙ first_holds _ _ e
 
-      pub query_sound : bad_term f (terms f) ≡ false → query_frame k most f ≡ query.Terms (query_start f) (record { at = first_term })
-      unfolding query_frame field_rows
-      query_sound e =
-          ap (λ (n : ℕ). query_as n f)
-          (after_head ∙ first_passes _ _ w ∙ first_passes (5 if bad_term f (terms f)) [] e ∙ first-empty)
+      pub query_sound : bad_term f (terms f) ≡ false → query_refusal k most f ≡ 0
+      unfolding field_rows
+      query_sound e = after_head ∙ first_passes _ _ w ∙ first_passes (5 if bad_term f (terms f)) [] e ∙ first-empty

@@ -10,6 +10,9 @@ use borrow.Author.Tests.{ltb-true}
 use Rattle.basics.specs.Lists.{all}
 use Rattle.basics.proofs.Cases.{by-eq}
 use Rattle.basics.proofs.Lists.{and_left, and_right}
+use Rattle.refusals.specs.declared.Refusal.{Refusal}
+use Rattle.refusals.specs.declared.Refusal.TheVariants.{WrongVersion, WrongLength, WrongKind, WrongFields, BadTerm, ZeroCount, RepeatedTerm, WrongCounters, NumbersSpent, Damaged, TableFull, ArenaFull, Stopped}
+use Rattle.refusals.specs.Numbers.{number_of}
 use Rattle.frames.specs.Refusals.{Row, first_of}
 
 -- every row has a number above 0, so that 0 means that none holds
@@ -83,3 +86,19 @@ first_le n r rs h l = le_case r.holds n r rs refl h l
 
 pub append_le : (n : ℕ) {a : List Row} (b : List Row) → Numbered a → first_of a ≤ n → first_of b ≤ n → first_of (a ++ b) ≤ n
 append_le n {a} b m h l = by-eq (first_of a) 0 (λ e. rw (first-none b m e) l) (λ e. rw (first_some a b (omega arith)) h)
+
+-- a refusal's number is above 0
+pub refusal-some : (r : Refusal) → 0 < number_of r
+refusal-some WrongVersion = omega arith
+refusal-some WrongLength = omega arith
+refusal-some WrongKind = omega arith
+refusal-some WrongFields = omega arith
+refusal-some BadTerm = omega arith
+refusal-some ZeroCount = omega arith
+refusal-some RepeatedTerm = omega arith
+refusal-some WrongCounters = omega arith
+refusal-some NumbersSpent = omega arith
+refusal-some Damaged = omega arith
+refusal-some TableFull = omega arith
+refusal-some ArenaFull = omega arith
+refusal-some Stopped = omega arith

@@ -1,26 +1,18 @@
 -- How the check of a report follows its table.
 -- Assumes nothing.
-use mathlib.Core.Path.{◌≡◌, refl, ap, ◌∙◌}
+use mathlib.Core.Path.{◌≡◌, refl, sym, ◌∙◌}
 use mathlib.Core.Bool.{true, false}
 use mathlib.Core.List.{List, [], ◌∷◌, ◌++◌}
-use Prim.Native.Nat.{ℕ, zero, suc, ◌<◌}
+use Prim.Native.Nat.{ℕ, ◌<◌}
 use native.Mathlib.Omega.{arith}
 use lib.ListN.{length}
 use Rattle.basics.specs.Lists.{all}
-use Rattle.frames.specs.declared.Report.TheVariants as report
+use Rattle.refusals.specs.declared.Refusal.{Refusal}
+use Rattle.refusals.specs.Numbers.{number_of}
 use Rattle.frames.specs.Refusals.{Row, ◌if◌, first_of}
-use Rattle.frames.specs.Frames.{count_bytes, first_line, lines, passes_end, bad_term, zero_count, repeated_term, head_rows, field_rows, report_rows, report_refusal, report_as, report_frame}
+use Rattle.frames.specs.Frames.{count_bytes, first_line, lines, passes_end, bad_term, zero_count, repeated_term, head_rows, field_rows, report_rows, report_refusal}
 use Rattle.frames.proofs.Heads.{head-numbered}
-use Rattle.frames.proofs.Refusals.{Numbered, numbered, first-empty, first_holds, first_passes, first_some, first-none, first-zero, both_zero}
-
-as_refused : (n : ℕ) (f : List ℕ) → 0 < n → report_as n f ≡ report.Refused n
-as_refused zero f h = absurd (omega arith)
-as_refused (suc n) f h = refl
-
--- what the check answers, once the refusal is known
-answered : (f : List ℕ) {n : ℕ} → report_refusal f ≡ n → report_frame f ≡ report_as n f
-unfolding report_frame
-answered f e = ap (λ (n : ℕ). report_as n f) e
+use Rattle.frames.proofs.Refusals.{Numbered, numbered, first-empty, first_holds, first_passes, first_some, first-none, first-zero, both_zero, refusal-some}
 
 module _ (f : List ℕ) where
   row4 : Row
@@ -75,9 +67,10 @@ module _ (f : List ℕ) where
 
   -- ---- all rows of a report
 
-  pub report-head : 0 < first_of (head_rows 1 f) → report_frame f ≡ report.Refused (first_of (head_rows 1 f))
+  -- the head's refusal is the report's
+  pub report-head : (r : Refusal) → number_of r ≡ first_of (head_rows 1 f) → number_of r ≡ report_refusal f
   unfolding report_refusal report_rows
-  report-head h = answered f (first_some (head_rows 1 f) _ h) ∙ as_refused (first_of (head_rows 1 f)) f h
+  report-head r e = e ∙ sym (first_some (head_rows 1 f) _ (rw e at (refusal-some r)))
 
   module _ (z : first_of (head_rows 1 f) ≡ 0) where
     -- where the head is right, the lines decide
@@ -85,18 +78,18 @@ module _ (f : List ℕ) where
     unfolding report_refusal report_rows
     lines_judged = first-none _ (head-numbered 1 f) z
 
-    pub report-fields : 0 < first_of (field_rows f) → report_frame f ≡ report.Refused (first_of (field_rows f))
-    report-fields h = answered f (lines_judged ∙ first_some (field_rows f) _ h) ∙ as_refused (first_of (field_rows f)) f h
+    pub report-fields : (r : Refusal) → number_of r ≡ first_of (field_rows f) → number_of r ≡ report_refusal f
+    report-fields r e = e ∙ sym (lines_judged ∙ first_some (field_rows f) _ (rw e at (refusal-some r)))
 
     module _ (n : first_of (field_rows f) ≡ 0) where
       after_fields : report_refusal f ≡ first_of (row7 ∷ [])
       after_fields = lines_judged ∙ first-none _ field_numbered n
 
-      pub report_repeats : repeated_term f (lines f) ≡ true → report_frame f ≡ report.Refused 7
-      report_repeats e = answered f (after_fields ∙ first_holds row7 _ e)
+      pub report_repeats : repeated_term f (lines f) ≡ true → report_refusal f ≡ 7
+      report_repeats e = after_fields ∙ first_holds row7 _ e
 
-      pub report-sound : repeated_term f (lines f) ≡ false → report_frame f ≡ report.Lines (length (lines f))
-      report-sound e = answered f (after_fields ∙ first_passes row7 _ e ∙ first-empty)
+      pub report-sound : repeated_term f (lines f) ≡ false → report_refusal f ≡ 0
+      report-sound e = after_fields ∙ first_passes row7 _ e ∙ first-empty
 
   -- where no row holds
   pub none-holds : report_refusal f ≡ 0
