@@ -2,18 +2,55 @@
 // lowest first.
 #![tactic(auto)]
 
-ghost use Rattle.std.specs.Prelude.{◌≡◌, ◌+◌, ◌-◌, ◌≤◌, ◌<◌, ◌^◌, length, drop};
+ghost use Rattle.std.specs.Prelude.{◌≡◌, ℕ, ◌+◌, ◌-◌, ◌≤◌, ◌<◌, ◌^◌, length, drop};
 ghost use Rattle.std.proofs.lemmas.List.Edits.{sets};
 ghost use Rattle.postings.specs.Coding.{vbyte, code, code_length, value, at_most, decoded};
 ghost use Rattle.postings.specs.Claims.{RoundTrips};
 
-// The distance of a report from the last one in the chain.
+// The distance of a report from an earlier one, which is what a posting stores. The type says which the earlier one is, so that a gap that counts
+// from one report is not stored where another is meant.
+pub trait Gap: Copy {
+    ghost distance: { Self → ℕ };
+
+    fn between(earlier: u32, number: u32) -> Self
+        requires { earlier < number }
+        ensures { distance result ≡ number - earlier };
+
+    fn steps(self) -> u32
+        ensures { result ≡ distance self };
+}
+
+// From the last report in the chain.
 #[derive(Clone, Copy)]
 pub struct DGap(pub u32);
 
-// The distance of a block's first report from the first one of the block before.
+impl Gap for DGap {
+    ghost distance = { λ gap. gap.0 };
+
+    fn between(earlier: u32, number: u32) -> Self {
+        DGap(number - earlier)
+    }
+
+    fn steps(self) -> u32 {
+        self.0
+    }
+}
+
+// From the first report of the block before: the gap of a block's first report.
 #[derive(Clone, Copy)]
 pub struct BGap(pub u32);
+
+impl Gap for BGap {
+    ghost distance = { λ gap. gap.0 };
+
+    fn between(earlier: u32, number: u32) -> Self {
+        BGap(number - earlier)
+    }
+
+    fn steps(self) -> u32 {
+        self.0
+    }
+}
 
 impl DGap {
     pub fn from_last(last: u32, number: u32) -> Self
