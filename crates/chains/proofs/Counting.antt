@@ -4,24 +4,22 @@ use Prim.Native.Nat.{ℕ, suc, ◌+◌, ◌-◌, ◌≤◌, ◌<◌}
 use mathlib.Core.Path.{◌≡◌, refl, sym, ap, ◌∙◌}
 use mathlib.Core.Bool.{Bool, true, false, cond, ◌&&◌, ◌||◌}
 use mathlib.Core.List.{List}
+use Rattle.std.specs.Prelude.{Option, Some, None}
 use native.Mathlib.Omega.{arith}
 use native.Mathlib.Nat.{add-zero, zero-add}
 use lib.Dec.{leb, eqb}
 use lib.ListN.{length, get_or, drop}
 use borrow.Author.Tests.{le-leb, lt-leb, eq-eqb, ne_eqb}
 use Rattle.basics.proofs.Cases.{by-lt}
-use Rattle.postings.specs.Coding.{decoded}
+use Rattle.postings.specs.Coding.{posting, decoded}
 use Rattle.postings.specs.declared.Decoded.{Decoded}
-use Rattle.postings.specs.declared.Decoded.TheVariants as code
 use Rattle.postings.proofs.Laws.{decoded-within}
 use Rattle.blocks.specs.declared.Head.{Head}
 use Rattle.blocks.specs.Prescribed.{Posting}
 use Rattle.blocks.specs.Fields.{block_size, head_fixed, link_size, place, link_of, head_of, part_of}
 use Rattle.chains.specs.declared.Cursor.{Cursor}
 use Rattle.chains.specs.declared.PartRead.{PartRead}
-use Rattle.chains.specs.declared.Step.{Step}
-use Rattle.chains.specs.declared.Step.TheVariants as step
-use Rattle.chains.specs.Chains.{part_end, exhausted, given, read_at, entered, next_block, step_at, Reading, damaged, whole, onto, follow, run, at_head, bad_head, last_from, agreeing, chain_of, is_whole, Follows}
+use Rattle.chains.specs.Chains.{Stepped, stepped, at_end, damage, part_end, exhausted, given, read_at, entered, next_block, step_at, Reading, damaged, whole, onto, follow, run, at_head, bad_head, last_from, agreeing, chain_of, is_whole, Follows}
 use Rattle.chains.specs.Parts.{InPart, passed, part_read}
 use Rattle.chains.proofs.Steps.{part_within, past, given-none, given_low, given-over, given-at, read_gave, next-none, next_out, next-at, step_end, step_next, step_here}
 use Rattle.chains.proofs.Parts.{part_drop, step_first, read_in_part, Within, here, on, passed-within, stopped_damage}
@@ -56,7 +54,7 @@ pub record Counted (a : List ℕ) (used reports h : ℕ) (d : Head) (c : Cursor)
   pub is : is_whole (chain_of a used reports h) ≡ finish d n c.number (rest a used reports c)
 
 module _ {a : List ℕ} {used reports h : ℕ} {d : Head} {c : Cursor} {n : ℕ} (w : Counted a used reports h d c n) where
-  more : {m f : ℕ} {c' : Cursor} → step_at a used reports c ≡ step.Posting m f c' → Counted a used reports h d c' (n + 1)
+  more : {m f : ℕ} {c' : Cursor} → step_at a used reports c ≡ stepped m f c' → Counted a used reports h d c' (n + 1)
   more {m} {f} {c'} e =
       let s = step_follows a used reports c e in
       record {
@@ -66,11 +64,11 @@ module _ {a : List ℕ} {used reports h : ℕ} {d : Head} {c : Cursor} {n : ℕ}
         is = w.is ∙ ap (finish d n c.number) (rest-posting a used reports c e) ∙ finish_onto d n c.number (record { number = m; count = f }) (rest a used reports c') ∙ ap (λ (x : ℕ). finish d (n + 1) x (rest a used reports c')) (sym s.number);
       }
 
-  ended : step_at a used reports c ≡ step.End → is_whole (chain_of a used reports h) ≡ eqb n d.postings && eqb c.number d.last
+  ended : step_at a used reports c ≡ at_end → is_whole (chain_of a used reports h) ≡ eqb n d.postings && eqb c.number d.last
   unfolding finish last_from
   ended e = w.is ∙ ap (finish d n c.number) (rest_end a used reports c e) ∙ rw add-zero
 
-  broken : step_at a used reports c ≡ step.Damaged → is_whole (chain_of a used reports h) ≡ false
+  broken : step_at a used reports c ≡ damage → is_whole (chain_of a used reports h) ≡ false
   unfolding finish
   broken e = w.is ∙ ap (finish d n c.number) (rest-damaged a used reports c e)
 
@@ -133,11 +131,11 @@ start a used reports h i u e =
     entering w c 0 f refl (omega arith) (step_first a used reports c (omega (arith, f.inside, f.in_use)) refl)
 
 module _ {a : List ℕ} {used reports h : ℕ} {d : Head} {k : Cursor} {base n : ℕ} (w : Entering a used reports h d k base n) where
-  unread_damage : read_at a reports k base ≡ step.Damaged → is_whole (chain_of a used reports h) ≡ false
+  unread_damage : read_at a reports k base ≡ damage → is_whole (chain_of a used reports h) ≡ false
   unfolding finish follow
-  unread_damage e = w.is ∙ ap (λ (s : Step). finish d n k.number (follow (run (reports - k.number) a used reports) s)) e
+  unread_damage e = w.is ∙ ap (λ (s : Stepped). finish d n k.number (follow (run (reports - k.number) a used reports) s)) e
 
-  first_counted : {m f : ℕ} {c' : Cursor} → read_at a reports k base ≡ step.Posting m f c' → Counted a used reports h d c' (n + 1)
+  first_counted : {m f : ℕ} {c' : Cursor} → read_at a reports k base ≡ stepped m f c' → Counted a used reports h d c' (n + 1)
   unfolding follow
   first_counted {m} {f} {c'} e =
       let g = read_gave a reports k base m f c' e in
@@ -148,7 +146,7 @@ module _ {a : List ℕ} {used reports h : ℕ} {d : Head} {k : Cursor} {base n :
         few = omega (arith, w.few, g.number, g.ascends);
         within = omega (arith, g.number, g.within);
         is = w.is
-            ∙ ap (λ (s : Step). finish d n k.number (follow (run (reports - k.number) a used reports) s)) e
+            ∙ ap (λ (s : Stepped). finish d n k.number (follow (run (reports - k.number) a used reports) s)) e
             ∙ ap (λ (x : Reading). finish d n k.number (onto p x)) (run-rest a used reports (reports - k.number) c' s)
             ∙ finish_onto d n k.number p (rest a used reports c')
             ∙ ap (λ (x : ℕ). finish d (n + 1) x (rest a used reports c')) (sym g.number);
@@ -171,7 +169,7 @@ pub record Read (a : List ℕ) (used reports h : ℕ) (d : Head) (b left n : ℕ
   pub begun : 0 < r.first
   pub first_in_lem : r.first ≤ reports
   pub counted : Counted a used reports h d (after d b left r) (n + (1 + r.rest.postings))
-  pub early : exhausted a (after d b left r) ≡ false → step_at a used reports (after d b left r) ≡ step.Damaged
+  pub early : exhausted a (after d b left r) ≡ false → step_at a used reports (after d b left r) ≡ damage
 
 module _ {a : List ℕ} {used reports h : ℕ} {d : Head} {b at last left base n : ℕ} (w : Entering a used reports h d (before d b at last left) base n) where
   abbrev k : Cursor
@@ -183,49 +181,70 @@ module _ {a : List ℕ} {used reports h : ℕ} {d : Head} {b at last left base n
   abbrev part : List ℕ
   part = part_of a b 0 e
 
-  found : (x : Decoded) → decoded (drop at part) ≡ x → read_at a reports k base ≡ given reports k base x
+  found : (x : Option Decoded) → decoded (drop at part) ≡ x → read_at a reports k base ≡ given reports k base x
   unfolding read_at
   found x q = ap (given reports k base) (sym (ap decoded (part_drop a b e at)) ∙ q)
 
-  not_first : (x : Decoded) → decoded (drop at part) ≡ x → (part_read part reports at base).first ≤ last → read_at a reports k base ≡ step.Damaged
-  not_first code.Rejected q i = found code.Rejected q ∙ given-none reports k base
-  not_first (code.Posting g f l) q i =
-      found (code.Posting g f l) q
-      ∙ by-lt reports (base + g) (λ u. given-over reports k base g f l u)
-      (λ u. given_low reports k base g f l (omega (arith, ap (λ (r : PartRead). r.first) (read_some part reports at base q u))))
+  no_first : (x : Option Decoded) → decoded (drop at part) ≡ x → None ≡ part_read part reports at base → read_at a reports k base ≡ damage
+  no_first None q i = found None q ∙ given-none reports k base
+  no_first (Some d) q i =
+      found (Some d) q
+      ∙ by-lt reports (base + d.gap) (λ u. given-over reports k base d.gap d.count d.length u) (λ u. cc (read_some part reports at base q u))
 
-  first_read : (x : Decoded) → decoded (drop at part) ≡ x → last < (part_read part reports at base).first → Read a used reports h d b left n (part_read part reports at base)
-  unfolding part_end
-  first_read code.Rejected q i = absurd (omega (arith, ap (λ (r : PartRead). r.first) (read_none part reports at base q)))
-  first_read (code.Posting g f l) q i =
-      by-lt reports (base + g) (λ u. absurd (omega (arith, ap (λ (r : PartRead). r.first) (read-over part reports at base q u))))
+  not_first : (x : Option Decoded) → decoded (drop at part) ≡ x → {r : PartRead} → Some r ≡ part_read part reports at base → r.first ≤ last
+      → read_at a reports k base ≡ damage
+  not_first None q i h = cc (read_none part reports at base q)
+  not_first (Some d) q {r} i h =
+      found (Some d) q
+      ∙ by-lt reports (base + d.gap) (λ u. given-over reports k base d.gap d.count d.length u)
       (λ u.
-      let v : last < base + g = omega (arith, ap (λ (r : PartRead). r.first) (read_some part reports at base q u)) in
-      let c = past k (base + g) l in
-      let s : read_at a reports k base ≡ step.Posting (base + g) f c = found (code.Posting g f l) q ∙ given-at reports k base g f l v u in
+      let v : r.first ≡ base + d.gap = cc (read_some part reports at base q u) in
+      given_low reports k base d.gap d.count d.length (omega arith))
+
+  first_read : (d' : Decoded) → decoded (drop at part) ≡ Some d' → base + d'.gap ≤ reports → last < base + d'.gap
+      → Read a used reports h d b left n (record { first = base + d'.gap; rest = passed part reports (at + d'.length) (base + d'.gap) reports })
+  unfolding part_end
+  first_read d' q u v =
+      let c = past k (base + d'.gap) d'.length in
+      let s : read_at a reports k base ≡ stepped (base + d'.gap) d'.count c
+      = found (Some d') q ∙ given-at reports k base d'.gap d'.count d'.length v u in
       let m = sym (ap decoded (part_drop a b e at)) ∙ q in
-      let y : at ≤ e = omega (arith, part_within a b at e g f l m, (decoded-within (drop at part) q).0) in
-      let z : InPart a reports c = read_in_part a used reports k base (base + g) f c w.follows y s in
-      let o = passed part reports (at + l) (base + g) reports in
+      let y : at ≤ e = omega (arith, part_within a b at e d'.gap d'.count d'.length m, (decoded-within (drop at part) q).0) in
+      let z : InPart a reports c = read_in_part a used reports k base (base + d'.gap) d'.count c w.follows y s in
+      let o = passed part reports (at + d'.length) (base + d'.gap) reports in
       let j : n + (1 + o.postings) ≡ n + 1 + o.postings = omega arith in
-      rw (read_some part reports at base q u)
-      (record {
+      record {
         begun = omega arith;
         first_in_lem = u;
         counted = rw j (counted_on (first_counted w s) (passed-within z reports));
-        early = λ x. step_here a used reports _ x ∙ stopped_damage z reports (omega arith) (passed-stops part reports (at + l) (base + g) reports) x;
-      }))
+        early = λ x. step_here a used reports _ x ∙ stopped_damage z reports (omega arith) (passed-stops part reports (at + d'.length) (base + d'.gap) reports) x;
+      }
 
-  module _ {end : ℕ} {r : PartRead} (z : end ≡ e) (q : r ≡ part_read (part_of a b 0 end) reports at base) where
-    as_read : r ≡ part_read part reports at base
-    as_read = q ∙ ap (λ (x : ℕ). part_read (part_of a b 0 x) reports at base) z
+  all_read : (x : Option Decoded) → decoded (drop at part) ≡ x → {r : PartRead} → Some r ≡ part_read part reports at base → last < r.first
+      → Read a used reports h d b left n r
+  all_read None q i h = cc (read_none part reports at base q)
+  all_read (Some d') q {r} i h =
+      by-lt reports (base + d'.gap) (λ u. cc (read-over part reports at base q u))
+      (λ u.
+      let v : r ≡ record { first = base + d'.gap; rest = passed part reports (at + d'.length) (base + d'.gap) reports }
+      = cc (read_some part reports at base q u) in
+      rw v (first_read d' q u (rw v at h)))
 
-    -- no first posting, or not past the last one
-    pub not-begun : r.first ≤ last → is_whole (chain_of a used reports h) ≡ false
-    not-begun i = unread_damage w (not_first (decoded (drop at part)) refl (rw as_read at i))
+  module _ {end : ℕ} (z : end ≡ e) where
+    as_read : part_read (part_of a b 0 end) reports at base ≡ part_read part reports at base
+    as_read = ap (λ (x : ℕ). part_read (part_of a b 0 x) reports at base) z
 
-    pub block_read : last < r.first → Read a used reports h d b left n r
-    block_read i = rw as_read (first_read (decoded (drop at part)) refl (rw as_read at i))
+    -- no first posting
+    pub not_read : None ≡ part_read (part_of a b 0 end) reports at base → is_whole (chain_of a used reports h) ≡ false
+    not_read q = unread_damage w (no_first (decoded (drop at part)) refl (q ∙ as_read))
+
+    module _ {r : PartRead} (q : Some r ≡ part_read (part_of a b 0 end) reports at base) where
+      -- not past the last one
+      pub not-begun : r.first ≤ last → is_whole (chain_of a used reports h) ≡ false
+      not-begun i = unread_damage w (not_first (decoded (drop at part)) refl (q ∙ as_read) i)
+
+      pub block_read : last < r.first → Read a used reports h d b left n r
+      block_read i = all_read (decoded (drop at part)) refl (q ∙ as_read) i
 
 -- behind a block that was read
 module _ {a : List ℕ} {used reports h : ℕ} {d : Head} {b left n : ℕ} {r : PartRead} (v : Read a used reports h d b left n r) where

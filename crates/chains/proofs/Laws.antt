@@ -4,6 +4,7 @@ use Prim.Native.Nat.{ℕ, zero, suc, ◌-◌, ◌≤◌, ◌<◌}
 use mathlib.Core.Path.{◌≡◌, refl, sym, ap, subst, ◌∙◌}
 use mathlib.Core.Bool.{Bool, true, false, cond, ◌&&◌}
 use mathlib.Core.List.{List, [], ◌∷◌}
+use Rattle.std.specs.Prelude.{Some, None, Ok, Err}
 use native.Mathlib.Omega.{arith}
 use lib.Dec.{leb, eqb}
 use lib.ListN.{length}
@@ -16,8 +17,7 @@ use Rattle.blocks.specs.Prescribed.{Posting}
 use Rattle.blocks.proofs.Fields.{part_own, part_other}
 use Rattle.chains.specs.declared.Cursor.{Cursor}
 use Rattle.chains.specs.declared.Step.{Step}
-use Rattle.chains.specs.declared.Step.TheVariants as step
-use Rattle.chains.specs.Chains.{exhausted, entered, next_block, step_at, Reading, damaged, whole, onto, follow, run, at_head, bad_head, last_from, agreeing, chain_of, is_whole, Follows}
+use Rattle.chains.specs.Chains.{Stepped as Outcome, stepped, at_end, damage, exhausted, entered, next_block, step_at, Reading, damaged, whole, onto, follow, run, at_head, bad_head, last_from, agreeing, chain_of, is_whole, Follows}
 use Rattle.chains.proofs.Steps.{Gave, read_gave, next-none, next_out, next-at, step_empty, step_end, step_next, step_here}
 
 -- ---- one step
@@ -43,38 +43,38 @@ module _ (a : List ℕ) (used reports : ℕ) (c : Cursor) {n : ℕ} {c' : Cursor
     follows = λ w. record { inside = w.inside; in_use = rw g.block (u w); end_in = rw g.end w.end_in };
   }
 
-  at_next : {f : ℕ} → next_block a used reports c ≡ step.Posting n f c' → Stepped a used reports c n c'
+  at_next : {f : ℕ} → next_block a used reports c ≡ stepped n f c' → Stepped a used reports c n c'
   unfolding entered
   at_next {f} e =
       by-eq c.left 0
-      (λ p. let z : ◌≡◌ {A = ℕ} 0 1 = cc (next-none a used reports c p) in absurd (omega arith))
+      (λ p. cc (next-none a used reports c p))
       (λ p.
       by-lt (link_of a c.block) used
       (λ h.
       let b = link_of a c.block in
       let g = read_gave a reports (entered c b) c.first n f c' (sym (next-at a used reports c b refl p h) ∙ e) in
       gave b (λ w. h) (record { tail = g.tail; end = g.end; block = g.block; number = g.number; ascends = g.ascends; within = g.within }))
-      (λ h. let z : ◌≡◌ {A = ℕ} 0 1 = cc (next_out a used reports c h) in absurd (omega arith)))
+      (λ h. cc (next_out a used reports c h)))
 
   -- every step to a posting
-  pub step_follows : {f : ℕ} → step_at a used reports c ≡ step.Posting n f c' → Stepped a used reports c n c'
+  pub step_follows : {f : ℕ} → step_at a used reports c ≡ stepped n f c' → Stepped a used reports c n c'
   step_follows {f} e = go (exhausted a c) refl
     where
       go : (x : Bool) → exhausted a c ≡ x → Stepped a used reports c n c'
       go false q = gave c.block (λ w. w.in_use) (read_gave a reports c c.number n f c' (sym (step_here a used reports c q) ∙ e))
       go true q =
           by-eq c.first 0
-          (λ p. let z : ◌≡◌ {A = ℕ} 0 1 = cc (step_empty a used reports c q p) in absurd (omega arith))
+          (λ p. cc (step_empty a used reports c q p))
           (λ p.
           by-eq c.block c.tail
-          (λ r. let z : ◌≡◌ {A = ℕ} 0 1 = cc (step_end a used reports c q p r) in absurd (omega arith))
+          (λ r. cc (step_end a used reports c q p r))
           (λ r. at_next (sym (step_next a used reports c q p r) ∙ e)))
 
 -- ---- a run of steps
 
 onto-whole : (p : Posting) (r : Reading) (ps : List Posting) → onto p r ≡ whole ps → (qs : List Posting) × (r ≡ whole qs) × (ps ≡ p ∷ qs)
 unfolding onto
-onto-whole p damaged ps e = let z : ◌≡◌ {A = ℕ} 0 1 = cc in absurd (omega arith)
+onto-whole p damaged ps e = cc
 onto-whole p (whole qs) ps e = (qs, refl, cc)
 
 module _ (a : List ℕ) (used reports : ℕ) where
@@ -90,14 +90,14 @@ module _ (a : List ℕ) (used reports : ℕ) where
   run_enough (suc k) zero c h i = absurd (omega arith)
   run_enough (suc k) (suc j) c h i = go (step_at a used reports c) refl (λ c'. run_enough k j c')
     where
-      go : (s : Step) → step_at a used reports c ≡ s
+      go : (s : Outcome) → step_at a used reports c ≡ s
           → ((c' : Cursor) → reports - c'.number < k → reports - c'.number < j → run k a used reports c' ≡ run j a used reports c')
           → follow (run k a used reports) s ≡ follow (run j a used reports) s
-      go (step.Posting n f c') e ih =
+      go (Ok (Some s)) e ih =
           let w = step_follows a used reports c e in
-          ap (onto _) (ih c' (omega arith) (omega arith))
-      go step.End e ih = refl
-      go step.Damaged e ih = refl
+          ap (onto _) (ih s.next (omega arith) (omega arith))
+      go (Ok None) e ih = refl
+      go (Err r) e ih = refl
 
   -- what is left to read from a cursor on, with fuel that is enough
   abbrev pub rest : Cursor → Reading
@@ -108,32 +108,32 @@ module _ (a : List ℕ) (used reports : ℕ) where
 
   module _ (c : Cursor) where
     -- by cases of the step
-    pub rest-posting : {n f : ℕ} {c' : Cursor} → step_at a used reports c ≡ step.Posting n f c' → rest c ≡ onto (record { number = n; count = f }) (rest c')
+    pub rest-posting : {n f : ℕ} {c' : Cursor} → step_at a used reports c ≡ stepped n f c' → rest c ≡ onto (record { number = n; count = f }) (rest c')
     unfolding follow
     rest-posting {n} {f} {c'} e =
         let w = step_follows a used reports c e in
         let h : reports - c'.number < reports - c.number = omega arith in
         run_step (reports - c.number) c ∙ rw e (ap (onto _) (run-rest (reports - c.number) c' h))
 
-    pub rest_end : step_at a used reports c ≡ step.End → rest c ≡ whole []
+    pub rest_end : step_at a used reports c ≡ at_end → rest c ≡ whole []
     unfolding follow
     rest_end e = run_step (reports - c.number) c ∙ rw e
 
-    pub rest-damaged : step_at a used reports c ≡ step.Damaged → rest c ≡ damaged
+    pub rest-damaged : step_at a used reports c ≡ damage → rest c ≡ damaged
     unfolding follow
     rest-damaged e = run_step (reports - c.number) c ∙ rw e
 
     -- where the rest is whole, a step gives its first posting, or it ends with the postings, and never finds damage
     module _ (ps : List Posting) (w : rest c ≡ whole ps) where
-      pub whole-posting : {n f : ℕ} {c' : Cursor} → step_at a used reports c ≡ step.Posting n f c'
+      pub whole-posting : {n f : ℕ} {c' : Cursor} → step_at a used reports c ≡ stepped n f c'
           → (qs : List Posting) × (rest c' ≡ whole qs) × (ps ≡ record { number = n; count = f } ∷ qs)
       whole-posting {n} {f} {c'} e = onto-whole (record { number = n; count = f }) (rest c') ps (sym (rest-posting e) ∙ w)
 
-      pub whole_end : step_at a used reports c ≡ step.End → ps ≡ []
+      pub whole_end : step_at a used reports c ≡ at_end → ps ≡ []
       whole_end e = cc (rest_end e)
 
-      pub whole_undamaged : step_at a used reports c ≡ step.Damaged → ⊥
-      whole_undamaged e = let z : ◌≡◌ {A = ℕ} 0 1 = cc (rest-damaged e) in omega arith
+      pub whole_undamaged : step_at a used reports c ≡ damage → ⊥
+      whole_undamaged e = cc (rest-damaged e)
 
 -- ---- the numbers of postings
 
@@ -157,14 +157,14 @@ unfolding run follow
 run-ascends zero a used reports c = tt
 run-ascends (suc k) a used reports c = go (step_at a used reports c) refl (λ c'. run-ascends k a used reports c')
   where
-    go : (s : Step) → step_at a used reports c ≡ s → ((c' : Cursor) → Ascends reports c'.number (run k a used reports c'))
+    go : (s : Outcome) → step_at a used reports c ≡ s → ((c' : Cursor) → Ascends reports c'.number (run k a used reports c'))
         → Ascends reports c.number (follow (run k a used reports) s)
-    go (step.Posting n f c') e ih =
+    go (Ok (Some s)) e ih =
         let w = step_follows a used reports c e in
-        onto-ascends reports c.number (record { number = n; count = f }) (run k a used reports c') w.ascends w.within
-        (subst (λ (x : ℕ). Ascends reports x (run k a used reports c')) w.number (ih c'))
-    go step.End e ih = tt
-    go step.Damaged e ih = tt
+        onto-ascends reports c.number (record { number = s.number; count = s.count }) (run k a used reports s.next) w.ascends w.within
+        (subst (λ (x : ℕ). Ascends reports x (run k a used reports s.next)) w.number (ih s.next))
+    go (Ok None) e ih = tt
+    go (Err r) e ih = tt
 
 -- ---- a whole chain
 
@@ -217,11 +217,11 @@ Agrees d r ps = (r ≡ whole ps) × (length ps ≡ d.postings) × (last_from 0 p
 
 agrees : (d : Head) (r : Reading) (ps : List Posting) → agreeing d r ≡ whole ps → Agrees d r ps
 unfolding agreeing
-agrees d damaged ps e = let z : ◌≡◌ {A = ℕ} 0 1 = cc in absurd (omega arith)
+agrees d damaged ps e = cc
 agrees d (whole qs) ps e = go (eqb (length qs) d.postings && eqb (last_from 0 qs) d.last) refl e
   where
     go : (x : Bool) → eqb (length qs) d.postings && eqb (last_from 0 qs) d.last ≡ x → cond x (whole qs) damaged ≡ whole ps → Agrees d (whole qs) ps
-    go false q e = let z : ◌≡◌ {A = ℕ} 0 1 = cc in absurd (omega arith)
+    go false q e = cc
     go true q e =
         let p : qs ≡ ps = cc in
         let x = eqb (length qs) d.postings in
@@ -242,7 +242,7 @@ unfolding at_head
 chain-whole a used reports h ps e = go (bad_head (head_of a h) used h) refl
   where
     go : (x : Bool) → bad_head (head_of a h) used h ≡ x → Whole a used reports h ps
-    go true q = let z : ◌≡◌ {A = ℕ} 0 1 = cc (chain_bad a used reports h q) in absurd (omega arith)
+    go true q = cc (chain_bad a used reports h q)
     go false q =
         let c : Cursor = at_head (head_of a h) used h in
         let w = agrees (head_of a h) (run (suc reports) a used reports c) ps (sym (chain_good a used reports h q) ∙ e) in
@@ -265,7 +265,7 @@ chain-from a used reports h ps e w p q =
 -- what is read whole is a list of postings
 pub is-whole : (r : Reading) → is_whole r ≡ true → (ps : List Posting) × (r ≡ whole ps)
 unfolding is_whole
-is-whole damaged e = let z : ◌≡◌ {A = ℕ} 0 1 = cc in absurd (omega arith)
+is-whole damaged e = cc
 is-whole (whole ps) e = (ps, refl)
 
 -- and such a list is read whole

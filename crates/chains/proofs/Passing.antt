@@ -4,18 +4,19 @@ use Prim.Native.Nat.{ℕ, zero, suc, ◌+◌, ◌≤◌, ◌<◌}
 use mathlib.Core.Path.{◌≡◌, refl, sym, ap, ◌∙◌}
 use mathlib.Core.Bool.{Bool, true, false, cond, ◌&&◌}
 use mathlib.Core.List.{List}
+use Rattle.std.specs.Prelude.{Option, Some, None}
 use mathlib.Core.Logic.{◌⊎◌, inl, inr}
 use native.Mathlib.Omega.{arith}
 use lib.Dec.{ltb}
 use lib.ListN.{length, drop, length-drop, drop_of_length-le}
 use borrow.Author.Tests.{lt-ltb, le-ltb, le-leb, lt-leb}
 use Rattle.basics.proofs.Cases.{by-lt}
-use Rattle.postings.specs.Coding.{decoded}
+use Rattle.postings.specs.Coding.{posting, decoded}
 use Rattle.postings.specs.declared.Decoded.{Decoded}
-use Rattle.postings.specs.declared.Decoded.TheVariants as code
 use Rattle.postings.proofs.Laws.{decoded-within, decoded-nil}
+use Rattle.chains.specs.declared.PartRead.{PartRead}
 use Rattle.chains.specs.declared.Passed.{Passed}
-use Rattle.chains.specs.Parts.{behind, onward, pass_from, passed, unread, opened, part_read}
+use Rattle.chains.specs.Parts.{behind, onward, pass_from, passed, opened, part_read}
 
 cond_same : (x : Bool) (p : Passed) → cond x p p ≡ p
 cond_same true p = refl
@@ -28,15 +29,15 @@ pub record Goes (part : List ℕ) (reports to : ℕ) (p : Passed) : Type 0 where
   pub l : ℕ
   pub before_end : p.at < length part
   pub below : p.number < to
-  pub found : decoded (drop p.at part) ≡ code.Posting g f l
+  pub found : decoded (drop p.at part) ≡ posting g f l
   pub in_reports_lem : p.number + g ≤ reports
 
 -- none can: the part's end, a number at or past `to`, no posting, or one over reports
 pub data Stopped (part : List ℕ) (reports to : ℕ) (p : Passed) : Type 0 where
   at_end : length part ≤ p.at → Stopped part reports to p
   arrived : to ≤ p.number → Stopped part reports to p
-  no_posting : decoded (drop p.at part) ≡ code.Rejected → Stopped part reports to p
-  over : {g f l : ℕ} → decoded (drop p.at part) ≡ code.Posting g f l → reports < p.number + g → Stopped part reports to p
+  no_posting : decoded (drop p.at part) ≡ None → Stopped part reports to p
+  over : {g f l : ℕ} → decoded (drop p.at part) ≡ posting g f l → reports < p.number + g → Stopped part reports to p
 
 -- a loop on its way: from p on it ends where it was to end from p₀ on, and k more postings are enough
 pub record Going (part : List ℕ) (reports to : ℕ) (p₀ p : Passed) : Type 0 where
@@ -51,11 +52,11 @@ module _ (part : List ℕ) (reports to : ℕ) where
       (λ h. by-lt p.number to (λ b. go (decoded (drop p.at part)) refl h b) (λ b. inr (arrived b)))
       (λ h. inr (at_end h))
     where
-      go : (x : Decoded) → decoded (drop p.at part) ≡ x → p.at < length part → p.number < to → Goes part reports to p ⊎ Stopped part reports to p
-      go code.Rejected e h b = inr (no_posting e)
-      go (code.Posting g f l) e h b =
-          by-lt reports (p.number + g) (λ u. inr (over e u))
-          (λ u. inl (record { g = g; f = f; l = l; before_end = h; below = b; found = e; in_reports_lem = u }))
+      go : (x : Option Decoded) → decoded (drop p.at part) ≡ x → p.at < length part → p.number < to → Goes part reports to p ⊎ Stopped part reports to p
+      go None e h b = inr (no_posting e)
+      go (Some d) e h b =
+          by-lt reports (p.number + d.gap) (λ u. inr (over e u))
+          (λ u. inl (record { g = d.gap; f = d.count; l = d.length; before_end = h; below = b; found = e; in_reports_lem = u }))
 
   -- a posting that is passed takes at least one byte, and lies in the part
   pub goes_within : {p : Passed} (w : Goes part reports to p) → (0 < w.l) × (p.at + w.l ≤ length part)
@@ -123,18 +124,18 @@ passed_none part reports at number to h = pass-stopped part reports to (length p
 -- ---- a part from its first posting on
 
 module _ (part : List ℕ) (reports at base : ℕ) where
-  module _ {g f l : ℕ} (e : decoded (drop at part) ≡ code.Posting g f l) where
-    pub read_some : base + g ≤ reports → part_read part reports at base ≡ record { first = base + g; rest = passed part reports (at + l) (base + g) reports }
+  module _ {g f l : ℕ} (e : decoded (drop at part) ≡ posting g f l) where
+    pub read_some : base + g ≤ reports → part_read part reports at base ≡ Some (record { first = base + g; rest = passed part reports (at + l) (base + g) reports })
     unfolding part_read opened
     read_some h = rw (e, le-leb (base + g) reports h)
 
-    pub read-over : reports < base + g → part_read part reports at base ≡ unread at
+    pub read-over : reports < base + g → part_read part reports at base ≡ None
     unfolding part_read opened
     read-over h = rw (e, lt-leb (base + g) reports h)
 
-  pub read_none : decoded (drop at part) ≡ code.Rejected → part_read part reports at base ≡ unread at
+  pub read_none : decoded (drop at part) ≡ None → part_read part reports at base ≡ None
   unfolding part_read opened
   read_none e = rw e
 
-  pub read_past : length part ≤ at → part_read part reports at base ≡ unread at
+  pub read_past : length part ≤ at → part_read part reports at base ≡ None
   read_past h = read_none (ap decoded (drop_of_length-le part h) ∙ decoded-nil)

@@ -9,35 +9,34 @@ use borrow.Author.Tests.{le-leb, lt-leb, lt-ltb, le-ltb}
 use Rattle.blocks.specs.Fields.{block_size, link_size, capacity}
 use Rattle.blocks.proofs.Capacity.{used-inside}
 use Rattle.chains.specs.declared.Cursor.{Cursor}
-use Rattle.chains.specs.declared.Step.TheVariants as step
-use Rattle.chains.specs.Chains.{step_at, is_place, step_from, Follows}
+use Rattle.chains.specs.Chains.{stepped, damage, step_at, is_place, step_from, Follows}
 
 module _ (a : List ℕ) (used reports : ℕ) (c : Cursor) where
   -- a posting that it gives is the cursor's
-  pub from-posting : (n f : ℕ) (c' : Cursor) → step_from a used reports c ≡ step.Posting n f c' → step_at a used reports c ≡ step.Posting n f c'
+  pub from-posting : (n f : ℕ) (c' : Cursor) → step_from a used reports c ≡ stepped n f c' → step_at a used reports c ≡ stepped n f c'
   unfolding step_from
   from-posting n f c' e = go (is_place a used c) e
     where
-      go : (b : Bool) → cond b (step_at a used reports c) step.Damaged ≡ step.Posting n f c' → step_at a used reports c ≡ step.Posting n f c'
+      go : (b : Bool) → cond b (step_at a used reports c) damage ≡ stepped n f c' → step_at a used reports c ≡ stepped n f c'
       go true e = e
-      go false e = let z : ◌≡◌ {A = ℕ} 0 1 = cc in absurd (omega arith)
+      go false e = cc
 
-  pub no_room : capacity a < used → step_from a used reports c ≡ step.Damaged
+  pub no_room : capacity a < used → step_from a used reports c ≡ damage
   unfolding step_from is_place
   no_room h = rw (lt-leb used (capacity a) h)
 
   module _ (r : used ≤ capacity a) where
-    pub not-used : used ≤ c.block → step_from a used reports c ≡ step.Damaged
+    pub not-used : used ≤ c.block → step_from a used reports c ≡ damage
     unfolding step_from is_place
     not-used h = rw (le-leb used (capacity a) r, le-ltb c.block used h)
 
     module _ (u : c.block < used) where
-      pub end_early : c.end < link_size → step_from a used reports c ≡ step.Damaged
+      pub end_early : c.end < link_size → step_from a used reports c ≡ damage
       unfolding step_from is_place
       end_early h = rw (le-leb used (capacity a) r, lt-ltb c.block used u, lt-leb link_size c.end h)
 
       module _ (f : link_size ≤ c.end) where
-        pub end_late : block_size < c.end → step_from a used reports c ≡ step.Damaged
+        pub end_late : block_size < c.end → step_from a used reports c ≡ damage
         unfolding step_from is_place
         end_late h =
             rw (le-leb used (capacity a) r, lt-ltb c.block used u, le-leb link_size c.end f, lt-leb c.end block_size h)

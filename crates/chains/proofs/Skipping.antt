@@ -4,71 +4,70 @@ use Prim.Native.Nat.{ℕ, ◌+◌, ◌≤◌, ◌<◌}
 use mathlib.Core.Path.{◌≡◌, sym, ◌∙◌}
 use mathlib.Core.Bool.{Bool, true, false, cond, ◌&&◌, ◌||◌}
 use mathlib.Core.List.{List}
+use Rattle.std.specs.Prelude.{Option, Some, None}
 use native.Mathlib.Omega.{arith}
 use lib.Dec.{ltb, leb, eqb}
 use borrow.Author.Tests.{ne_eqb}
 use Rattle.postings.specs.Coding.{decoded}
 use Rattle.postings.specs.declared.Decoded.{Decoded}
-use Rattle.postings.specs.declared.Decoded.TheVariants as code
 use Rattle.blocks.specs.Fields.{link_size, link_of, part_of}
 use Rattle.chains.specs.declared.Cursor.{Cursor}
-use Rattle.chains.specs.declared.Step.TheVariants as step
-use Rattle.chains.specs.Chains.{part_end, given, read_at, entered, next_block}
+use Rattle.chains.specs.Chains.{stepped, at_end, damage, part_end, given, read_at, entered, next_block}
 use Rattle.chains.specs.Parts.{moved_to}
 use Rattle.chains.proofs.Steps.{given-none, given-at, given_is}
 
 -- a posting behind the block's first moves only the offset and the number
-pub read-moved : (a : List ℕ) (reports : ℕ) (c : Cursor) (n f : ℕ) (c' : Cursor) → 0 < c.first → read_at a reports c c.number ≡ step.Posting n f c'
+pub read-moved : (a : List ℕ) (reports : ℕ) (c : Cursor) (n f : ℕ) (c' : Cursor) → 0 < c.first → read_at a reports c c.number ≡ stepped n f c'
     → (at : ℕ) × (c' ≡ moved_to c at n)
 unfolding read_at
 read-moved a reports c n f c' h e = go (decoded (part_of a c.block c.at (part_end c c.block))) e
   where
-    go : (x : Decoded) → given reports c c.number x ≡ step.Posting n f c' → (at : ℕ) × (c' ≡ moved_to c at n)
-    go code.Rejected e = let z : ◌≡◌ {A = ℕ} 0 1 = cc (given-none reports c c.number) in absurd (omega arith)
-    go (code.Posting g f' l) e =
-        let v = given_is reports c c.number g f' l n f c' e in
-        (c.at + l, sym v.past_it ∙ rw (ne_eqb c.first 0 (λ z. omega arith), v.number))
+    go : (x : Option Decoded) → given reports c c.number x ≡ stepped n f c' → (at : ℕ) × (c' ≡ moved_to c at n)
+    go None e = cc (given-none reports c c.number)
+    go (Some d) e =
+        let v = given_is reports c c.number d.gap d.count d.length n f c' e in
+        (c.at + d.length, sym v.past_it ∙ rw (ne_eqb c.first 0 (λ z. omega arith), v.number))
 
 -- a cursor that has read less of the block is given the same first posting of the next
 module _ (a : List ℕ) (used reports : ℕ) (c : Cursor) (at : ℕ) {number n f : ℕ} {c' : Cursor} (h : c.number ≤ number) where
-  given_earlier : (b : ℕ) (x : Decoded) → given reports (entered (moved_to c at number) b) c.first x ≡ step.Posting n f c'
-      → given reports (entered c b) c.first x ≡ step.Posting n f c'
+  given_earlier : (b : ℕ) (x : Option Decoded) → given reports (entered (moved_to c at number) b) c.first x ≡ stepped n f c'
+      → given reports (entered c b) c.first x ≡ stepped n f c'
   unfolding entered
-  given_earlier b code.Rejected e = let z : ◌≡◌ {A = ℕ} 0 1 = cc (given-none reports (entered (moved_to c at number) b) c.first) in absurd (omega arith)
-  given_earlier b (code.Posting g f' l) e =
+  given_earlier b None e = cc (given-none reports (entered (moved_to c at number) b) c.first)
+  given_earlier b (Some d) e =
       let m = moved_to c at number in
-      let v = given_is reports (entered m b) c.first g f' l n f c' e in
-      given-at reports (entered c b) c.first g f' l (omega (arith, v.ascends)) v.within
-      ∙ sym (given-at reports (entered m b) c.first g f' l v.ascends v.within)
+      let v = given_is reports (entered m b) c.first d.gap d.count d.length n f c' e in
+      given-at reports (entered c b) c.first d.gap d.count d.length (omega (arith, v.ascends)) v.within
+      ∙ sym (given-at reports (entered m b) c.first d.gap d.count d.length v.ascends v.within)
       ∙ e
 
-  pub next_earlier : next_block a used reports (moved_to c at number) ≡ step.Posting n f c' → next_block a used reports c ≡ step.Posting n f c'
+  pub next_earlier : next_block a used reports (moved_to c at number) ≡ stepped n f c' → next_block a used reports c ≡ stepped n f c'
   unfolding next_block read_at entered part_end
   next_earlier e = go (eqb c.left 0 || leb used (link_of a c.block)) e
     where
-      go : (x : Bool) → cond x step.Damaged (read_at a reports (entered (moved_to c at number) (link_of a c.block)) c.first) ≡ step.Posting n f c'
-          → cond x step.Damaged (read_at a reports (entered c (link_of a c.block)) c.first) ≡ step.Posting n f c'
+      go : (x : Bool) → cond x damage (read_at a reports (entered (moved_to c at number) (link_of a c.block)) c.first) ≡ stepped n f c'
+          → cond x damage (read_at a reports (entered c (link_of a c.block)) c.first) ≡ stepped n f c'
       go true e = e
       go false e = given_earlier (link_of a c.block) (decoded (part_of a (link_of a c.block) link_size (part_end c (link_of a c.block)))) e
 
 -- a block's posting is read or damaged: only a step from a block's end finds the chain's end
-given_more : (reports : ℕ) (c : Cursor) (base : ℕ) (x : Decoded) → given reports c base x ≡ step.End → ⊥
+given_more : (reports : ℕ) (c : Cursor) (base : ℕ) (x : Option Decoded) → given reports c base x ≡ at_end → ⊥
 unfolding given
-given_more reports c base code.Rejected e = let z : ◌≡◌ {A = ℕ} 0 1 = cc in omega arith
-given_more reports c base (code.Posting g f l) e = go (ltb c.number (base + g) && leb (base + g) reports) _ e
+given_more reports c base None e = cc
+given_more reports c base (Some d) e = go (ltb c.number (base + d.gap) && leb (base + d.gap) reports) _ e
   where
-    go : (x : Bool) (c' : Cursor) → cond x (step.Posting (base + g) f c') step.Damaged ≡ step.End → ⊥
-    go true c' e = let z : ◌≡◌ {A = ℕ} 0 1 = cc in omega arith
-    go false c' e = let z : ◌≡◌ {A = ℕ} 0 1 = cc in omega arith
+    go : (x : Bool) (c' : Cursor) → cond x (stepped (base + d.gap) d.count c') damage ≡ at_end → ⊥
+    go true c' e = cc
+    go false c' e = cc
 
-pub read_more : (a : List ℕ) (reports : ℕ) (c : Cursor) (base : ℕ) → read_at a reports c base ≡ step.End → ⊥
+pub read_more : (a : List ℕ) (reports : ℕ) (c : Cursor) (base : ℕ) → read_at a reports c base ≡ at_end → ⊥
 unfolding read_at
 read_more a reports c base e = given_more reports c base (decoded (part_of a c.block c.at (part_end c c.block))) e
 
-pub next_more : (a : List ℕ) (used reports : ℕ) (c : Cursor) → next_block a used reports c ≡ step.End → ⊥
+pub next_more : (a : List ℕ) (used reports : ℕ) (c : Cursor) → next_block a used reports c ≡ at_end → ⊥
 unfolding next_block
 next_more a used reports c e = go (eqb c.left 0 || leb used (link_of a c.block)) e
   where
-    go : (x : Bool) → cond x step.Damaged (read_at a reports (entered c (link_of a c.block)) c.first) ≡ step.End → ⊥
-    go true e = let z : ◌≡◌ {A = ℕ} 0 1 = cc in omega arith
+    go : (x : Bool) → cond x damage (read_at a reports (entered c (link_of a c.block)) c.first) ≡ at_end → ⊥
+    go true e = cc
     go false e = read_more a reports (entered c (link_of a c.block)) c.first e

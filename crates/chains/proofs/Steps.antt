@@ -4,20 +4,20 @@ use Prim.Native.Nat.{ℕ, ◌+◌, ◌-◌, ◌≤◌, ◌<◌}
 use mathlib.Core.Path.{◌≡◌, refl, sym, ap, ◌∙◌}
 use mathlib.Core.Bool.{true, false, cond}
 use mathlib.Core.List.{List}
+use Rattle.std.specs.Prelude.{Option, Some, None}
 use native.Mathlib.Omega.{arith}
 use lib.Dec.{eqb, leb}
 use lib.ListN.{take, drop, length-take}
 use borrow.Author.Tests.{lt-ltb, le-ltb, le-leb, lt-leb, eq-eqb, ne_eqb, leb-false}
 use Rattle.basics.proofs.Cases.{by-lt, by-eq}
 use Rattle.basics.proofs.Lists.{or_left}
-use Rattle.postings.specs.Coding.{decoded}
+use Rattle.postings.specs.Coding.{posting, decoded}
 use Rattle.postings.proofs.Laws.{decoded-within}
 use Rattle.postings.specs.declared.Decoded.{Decoded}
-use Rattle.postings.specs.declared.Decoded.TheVariants as code
 use Rattle.blocks.specs.Fields.{block_size, place, link_of, part_of}
 use Rattle.chains.specs.declared.Cursor.{Cursor}
-use Rattle.chains.specs.declared.Step.TheVariants as step
-use Rattle.chains.specs.Chains.{part_end, exhausted, given, read_at, entered, next_block, step_at}
+use Rattle.chains.specs.declared.Step.{Step}
+use Rattle.chains.specs.Chains.{stepped, at_end, damage, part_end, exhausted, given, read_at, entered, next_block, step_at}
 
 -- ---- the end of a block's part
 
@@ -47,7 +47,7 @@ part_is a b at to start e p q =
     rw (p, q, k)
 
 -- a posting lies within its part
-pub part_within : (a : List ℕ) (b at to g f l : ℕ) → decoded (part_of a b at to) ≡ code.Posting g f l → l ≤ to - at
+pub part_within : (a : List ℕ) (b at to g f l : ℕ) → decoded (part_of a b at to) ≡ posting g f l → l ≤ to - at
 unfolding part_of
 part_within a b at to g f l e = omega (arith, simp length-take at (decoded-within (part_of a b at to) e).1)
 
@@ -64,24 +64,30 @@ past c n l = record {
 }
 
 module _ (reports : ℕ) (c : Cursor) (base : ℕ) where
-  pub given-none : given reports c base code.Rejected ≡ step.Damaged
+  pub given-none : given reports c base None ≡ damage
   unfolding given
   given-none = refl
 
   module _ (g f l : ℕ) where
-    pub given_low : base + g ≤ c.number → given reports c base (code.Posting g f l) ≡ step.Damaged
+    pub given_low : base + g ≤ c.number → given reports c base (posting g f l) ≡ damage
     unfolding given
     given_low h = rw (le-ltb c.number (base + g) h)
 
-    pub given-over : reports < base + g → given reports c base (code.Posting g f l) ≡ step.Damaged
+    pub given-over : reports < base + g → given reports c base (posting g f l) ≡ damage
     unfolding given
     given-over k =
         by-lt c.number (base + g) (λ h. rw (lt-ltb c.number (base + g) h, lt-leb (base + g) reports k)) (λ h. given_low h)
 
     pub given-at : c.number < base + g → base + g ≤ reports
-        → given reports c base (code.Posting g f l) ≡ step.Posting (base + g) f (past c (base + g) l)
+        → given reports c base (posting g f l) ≡ stepped (base + g) f (past c (base + g) l)
     unfolding given
     given-at h k = rw (lt-ltb c.number (base + g) h, le-leb (base + g) reports k)
+
+-- equal steps to a posting have the same number and count, and lead to the same place
+pub same_step : {n n' f f' : ℕ} {c c' : Cursor} → stepped n f c ≡ stepped n' f' c' → (n ≡ n') × (f ≡ f') × (c ≡ c')
+same_step {n} {n'} {f} {f'} {c} {c'} e =
+    let s : ◌≡◌ {A = Step} (record { number = n; count = f; next = c }) (record { number = n'; count = f'; next = c' }) = cc in
+    (ap (λ (x : Step). x.number) s, ap (λ (x : Step). x.count) s, ap (λ (x : Step). x.next) s)
 
 -- what a posting's code says that was given for n: its number, the cursor past it, and that numbers ascend up to reports
 pub record Given (reports : ℕ) (c : Cursor) (base g l n : ℕ) (c' : Cursor) : Type 0 where
@@ -90,15 +96,17 @@ pub record Given (reports : ℕ) (c : Cursor) (base g l n : ℕ) (c' : Cursor) :
   pub ascends : c.number < base + g
   pub within : base + g ≤ reports
 
-pub given_is : (reports : ℕ) (c : Cursor) (base g f l n f' : ℕ) (c' : Cursor) → given reports c base (code.Posting g f l) ≡ step.Posting n f' c'
+pub given_is : (reports : ℕ) (c : Cursor) (base g f l n f' : ℕ) (c' : Cursor) → given reports c base (posting g f l) ≡ stepped n f' c'
     → Given reports c base g l n c'
 given_is reports c base g f l n f' c' e =
     by-lt c.number (base + g)
     (λ h.
     by-lt reports (base + g)
-    (λ k. let z : ◌≡◌ {A = ℕ} 0 1 = cc (given-over reports c base g f l k) in absurd (omega arith))
-    (λ k. record { number = cc (given-at reports c base g f l h k); past_it = cc (given-at reports c base g f l h k); ascends = h; within = k }))
-    (λ h. let z : ◌≡◌ {A = ℕ} 0 1 = cc (given_low reports c base g f l h) in absurd (omega arith))
+    (λ k. cc (given-over reports c base g f l k))
+    (λ k.
+    let s = same_step (sym (given-at reports c base g f l h k) ∙ e) in
+    record { number = s.0; past_it = s.2; ascends = h; within = k }))
+    (λ h. cc (given_low reports c base g f l h))
 
 -- what a posting says that a cursor gave: the cursor past it is in block b of the same chain, and numbers ascend up to reports
 pub record Gave (reports : ℕ) (c : Cursor) (b n : ℕ) (c' : Cursor) : Type 0 where
@@ -109,11 +117,11 @@ pub record Gave (reports : ℕ) (c : Cursor) (b n : ℕ) (c' : Cursor) : Type 0 
   pub ascends : c.number < n
   pub within : n ≤ reports
 
-given_gave : (reports : ℕ) (c : Cursor) (base : ℕ) (x : Decoded) (n f : ℕ) (c' : Cursor) → given reports c base x ≡ step.Posting n f c'
+given_gave : (reports : ℕ) (c : Cursor) (base : ℕ) (x : Option Decoded) (n f : ℕ) (c' : Cursor) → given reports c base x ≡ stepped n f c'
     → Gave reports c c.block n c'
-given_gave reports c base code.Rejected n f c' e = let z : ◌≡◌ {A = ℕ} 0 1 = cc (given-none reports c base) in absurd (omega arith)
-given_gave reports c base (code.Posting g f' l) n f c' e =
-    let v = given_is reports c base g f' l n f c' e in
+given_gave reports c base None n f c' e = cc (given-none reports c base)
+given_gave reports c base (Some d) n f c' e =
+    let v = given_is reports c base d.gap d.count d.length n f c' e in
     let q = v.past_it in
     record {
       tail = sym (ap (λ (x : Cursor). x.tail) q);
@@ -124,7 +132,7 @@ given_gave reports c base (code.Posting g f' l) n f c' e =
       within = omega (arith, v.within, v.number);
     }
 
-pub read_gave : (a : List ℕ) (reports : ℕ) (c : Cursor) (base n f : ℕ) (c' : Cursor) → read_at a reports c base ≡ step.Posting n f c'
+pub read_gave : (a : List ℕ) (reports : ℕ) (c : Cursor) (base n f : ℕ) (c' : Cursor) → read_at a reports c base ≡ stepped n f c'
     → Gave reports c c.block n c'
 unfolding read_at
 read_gave a reports c base n f c' e = given_gave reports c base (decoded (part_of a c.block c.at (part_end c c.block))) n f c' e
@@ -132,11 +140,11 @@ read_gave a reports c base n f c' e = given_gave reports c base (decoded (part_o
 -- ---- the next block, and one step
 
 module _ (a : List ℕ) (used reports : ℕ) (c : Cursor) where
-  pub next-none : c.left ≡ 0 → next_block a used reports c ≡ step.Damaged
+  pub next-none : c.left ≡ 0 → next_block a used reports c ≡ damage
   unfolding next_block
   next-none e = rw (eq-eqb c.left 0 e)
 
-  pub next_out : used ≤ link_of a c.block → next_block a used reports c ≡ step.Damaged
+  pub next_out : used ≤ link_of a c.block → next_block a used reports c ≡ damage
   unfolding next_block
   next_out h =
       by-eq c.left 0 next-none
@@ -147,11 +155,11 @@ module _ (a : List ℕ) (used reports : ℕ) (c : Cursor) where
   unfolding next_block
   next-at b e n h = rw (← e, ne_eqb c.left 0 n, lt-leb used b h)
 
-  pub step_empty : exhausted a c ≡ true → c.first ≡ 0 → step_at a used reports c ≡ step.Damaged
+  pub step_empty : exhausted a c ≡ true → c.first ≡ 0 → step_at a used reports c ≡ damage
   unfolding step_at
   step_empty e p = rw (e, eq-eqb c.first 0 p)
 
-  pub step_end : exhausted a c ≡ true → (c.first ≡ 0 → ⊥) → c.block ≡ c.tail → step_at a used reports c ≡ step.End
+  pub step_end : exhausted a c ≡ true → (c.first ≡ 0 → ⊥) → c.block ≡ c.tail → step_at a used reports c ≡ at_end
   unfolding step_at
   step_end e n p = rw (e, ne_eqb c.first 0 n, eq-eqb c.block c.tail p)
 

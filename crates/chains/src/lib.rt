@@ -143,7 +143,13 @@ pub struct Passed {
 
 // Reads on in a block's part while numbers are below `to`: to the part's end, or to where no sound posting stands. One loop over plain numbers,
 // without a cursor for each posting. Where no number of the part is over reports, as in a chain that was read whole before, none is judged again.
-pub fn pass<const JUDGED: bool>(part: &[u8], reports: u32, at: usize, number: u32, to: u32) -> Passed
+pub fn pass<const JUDGED: bool>(
+    part: &[u8],
+    reports: u32,
+    at: usize,
+    number: u32,
+    to: u32,
+) -> Passed
     requires below { number ≤ reports }
     requires known { JUDGED ≡ false → Bounded part.now reports at number }
     ensures { result ≡ passed part.now reports at number to }
@@ -216,7 +222,12 @@ pub struct ChainReader<'a> {
 }
 
 // A step from any place: damage where it lies in no used block, or its write offset in no block.
-pub fn step_from(arena: &[u8], used: u32, reports: u32, place: Cursor) -> Result<Option<Step>, Refusal>
+pub fn step_from(
+    arena: &[u8],
+    used: u32,
+    reports: u32,
+    place: Cursor,
+) -> Result<Option<Step>, Refusal>
     ensures { result ≡ step_from arena.now used reports place }
 {
     if blocks::capacity_of(arena) < used || used <= place.block {
@@ -236,7 +247,12 @@ pub fn next<'a>(r: ChainReader<'a>) -> Result<Option<Step>, Refusal>
 }
 
 // The same for a caller that has no reader.
-pub fn read_next(arena: &[u8], used: u32, reports: u32, place: Cursor) -> Result<Option<Step>, Refusal>
+pub fn read_next(
+    arena: &[u8],
+    used: u32,
+    reports: u32,
+    place: Cursor,
+) -> Result<Option<Step>, Refusal>
     ensures { result ≡ step_from arena.now used reports place }
 {
     let r = ChainReader {
@@ -296,7 +312,14 @@ fn end_in(d: Head, b: u32) -> usize
 
 // Reads a block's part up to offset `end`: its first posting, whose gap counts from `base`, and those behind it. None where no sound posting stands
 // there.
-fn read_part(arena: &[u8], reports: u32, b: u32, at: usize, end: usize, base: u32) -> Option<PartRead>
+fn read_part(
+    arena: &[u8],
+    reports: u32,
+    b: u32,
+    at: usize,
+    end: usize,
+    base: u32,
+) -> Option<PartRead>
     requires { (place b + end ≤ length arena.now) × (base ≤ reports) × (end ≤ block_size) }
     ensures { result ≡ part_read (part_of arena.now b 0 end) reports at base }
 {

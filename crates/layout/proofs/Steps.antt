@@ -16,8 +16,7 @@ use Rattle.basics.proofs.Parts.{drop-take}
 use Rattle.postings.proofs.Laws.{decode-code, code-head, length-code_pos}
 use Rattle.blocks.specs.Fields.{block_size, place, link_of, part_of}
 use Rattle.chains.specs.declared.Cursor.{Cursor}
-use Rattle.chains.specs.declared.Step.TheVariants as step
-use Rattle.chains.specs.Chains.{part_end, exhausted, given, read_at, entered, next_block, step_at}
+use Rattle.chains.specs.Chains.{stepped, at_end, part_end, exhausted, given, read_at, entered, next_block, step_at}
 use Rattle.layout.specs.Chains.{After, Entry, coded}
 
 -- ---- parts of blocks
@@ -95,7 +94,7 @@ module _ (a : List ℕ) where
     -- an entry that is ahead is read
     pub reads_entry : (base : ℕ) (e : Entry) (s : List ℕ) → ahead c ≡ coded e ++ s → base ≤ c.number
         → After c.number (record { number = base + e.gap; count = e.count }) → base + e.gap ≤ reports
-        → read_at a reports c base ≡ step.Posting (base + e.gap) e.count (moved c (base + e.gap) (length (coded e)))
+        → read_at a reports c base ≡ stepped (base + e.gap) e.count (moved c (base + e.gap) (length (coded e)))
     unfolding read_at given
     reads_entry base e s q h f k =
         rw (
@@ -126,7 +125,7 @@ module _ (a : List ℕ) where
           )
 
       -- or the end
-      pub step_end : c.block ≡ c.tail → z ≡ 0 → place c.block + block_size ≤ length a → c.end ≤ block_size → step_at a used reports c ≡ step.End
+      pub step_end : c.block ≡ c.tail → z ≡ 0 → place c.block + block_size ≤ length a → c.end ≤ block_size → step_at a used reports c ≡ at_end
       unfolding step_at exhausted part_end
       step_end e n h k =
           let t : eqb c.block c.tail ≡ true = eq-eqb c.block c.tail e in
