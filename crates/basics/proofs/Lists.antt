@@ -1,16 +1,18 @@
 -- Laws of the tests on lists, and of parts of lists.
 -- Assumes nothing.
-use Prim.Native.Nat.{ℕ, zero, suc, ◌+◌, ◌-◌, ◌≤◌, ◌<◌}
+use Prim.Native.Nat.{ℕ, zero, suc, ◌+◌, ◌<◌}
 use mathlib.Core.Path.{◌≡◌, refl}
 use mathlib.Core.Bool.{Bool, true, false, ◌&&◌, ◌||◌, and_assoc}
 use mathlib.Core.List.{List, [], ◌∷◌, ◌++◌, map}
 use native.Mathlib.Omega.{arith}
 use native.Mathlib.Numerals.{add-one}
-use native.Mathlib.Nat.{le_of_suc-le-suc, sub-zero, zero-sub, suc-sub-suc}
-use borrow.Author.Tests.{eqb-true, eq-eqb}
-use lib.Dec.{eqb}
-use lib.ListN.{length, get_or, take, drop, drop_of_length-le, replicate}
+use native.Mathlib.Nat.{le_of_suc-le-suc}
+use Rattle.std.proofs.lemmas.Slice.Eq.{bytes_eq-Decides}
+use lib.ListN.{length, get_or, take, drop}
 use lib.Seq.{drop-cons}
+pub use lib.Seq.{take-nil}
+pub use Rattle.std.proofs.lemmas.List.{drop-replicate}
+use Rattle.std.proofs.lemmas.Bool.{false_from_ne_true}
 use Rattle.basics.specs.Lists.{all, keep, same}
 
 -- ---- conjunctions
@@ -76,12 +78,6 @@ module _ {A : Type 0} (f : A → Bool) where
   keep_agrees g e [] = refl
   keep_agrees g e (x ∷ s) = rw (e x, keep_agrees g e s)
 
--- ---- a front of nothing
-
-pub take-nil : {A : Type 0} (i : ℕ) → take {A = A} i [] ≡ []
-take-nil zero = refl
-take-nil (suc i) = refl
-
 -- ---- a map of a part
 
 module _ {A B : Type 0} (f : A → B) where
@@ -95,14 +91,6 @@ module _ {A B : Type 0} (f : A → B) where
   map-drop (suc i) [] = refl
   map-drop (suc i) (x ∷ s) = map-drop i s
 
--- ---- n times a
-
--- what is left of it
-pub drop-replicate : {A : Type 0} (i n : ℕ) (a : A) → drop i (replicate n a) ≡ replicate (n - i) a
-drop-replicate zero n a = rw sub-zero
-drop-replicate (suc i) zero a = rw zero-sub
-drop-replicate (suc i) (suc n) a = rw suc-sub-suc (drop-replicate i n a)
-
 -- ---- disjunctions
 
 pub or_left : (a b : Bool) → a || b ≡ false → a ≡ false
@@ -115,38 +103,17 @@ or_right false b e = e
 
 -- ---- the same list
 
-pub same_refl : (s : List ℕ) → same s s ≡ true
-unfolding same
-same_refl [] = refl
-same_refl (x ∷ s) = rw (eq-eqb x x refl, same_refl s)
-
-pub eq_same : (s t : List ℕ) → s ≡ t → same s t ≡ true
-eq_same s t e = rw (← e) (same_refl s)
-
 pub same_eq : (s t : List ℕ) → same s t ≡ true → s ≡ t
 unfolding same
-same_eq [] [] e = refl
-same_eq [] (y ∷ t) e = let z : ◌≡◌ {A = ℕ} 0 1 = cc in absurd (omega arith)
-same_eq (x ∷ s) [] e = let z : ◌≡◌ {A = ℕ} 0 1 = cc in absurd (omega arith)
-same_eq (x ∷ s) (y ∷ t) e =
-    let p : x ≡ y = eqb-true x y (and_left (eqb x y) (same s t) e) in
-    let q : s ≡ t = same_eq s t (and_right (eqb x y) (same s t) e) in
-    cc
+same_eq s t = (bytes_eq-Decides s t).0
 
--- the lists from the i-th element on: that element, and those behind it
-pub same_drop : (s t : List ℕ) (i : ℕ) → i < length s → i < length t → same (drop i s) (drop i t) ≡ eqb (get_or s i 0) (get_or t i 0) && same (drop (i + 1) s) (drop (i + 1) t)
+pub eq_same : (s t : List ℕ) → s ≡ t → same s t ≡ true
 unfolding same
-same_drop s t i h l = rw (add-one, drop-cons s i 0 h, drop-cons t i 0 l)
+eq_same s t = (bytes_eq-Decides s t).1
 
--- nothing is left of either
-pub same_none : (s t : List ℕ) (i : ℕ) → length s ≤ i → length t ≤ i → same (drop i s) (drop i t) ≡ true
-unfolding same
-same_none s t i h l = rw (drop_of_length-le s h, drop_of_length-le t l)
+pub same_refl : (s : List ℕ) → same s s ≡ true
+same_refl s = eq_same s s refl
 
 -- lists that differ fail the test
 pub ne_same : (s t : List ℕ) → (s ≡ t → ⊥) → same s t ≡ false
-ne_same s t n = go (same s t) refl
-  where
-    go : (b : Bool) → same s t ≡ b → same s t ≡ false
-    go true e = absurd (n (same_eq s t e))
-    go false e = e
+ne_same s t n = false_from_ne_true (same s t) (λ e. n (same_eq s t e))

@@ -1,13 +1,14 @@
 -- Stores of several elements, one after the other.
 -- Assumes nothing.
 use mathlib.Core.Path.{◌≡◌, refl, ◌∙◌}
-use mathlib.Core.List.{List, [], ◌∷◌, ◌++◌}
+use mathlib.Core.List.{List, [], ◌∷◌, ◌++◌, append_assoc}
 use Prim.Native.Nat.{ℕ, zero, suc, ◌+◌, ◌-◌, ◌≤◌, ◌<◌}
 use native.Mathlib.Nat.{add-zero, zero-add, add-suc}
 use native.Mathlib.Numerals.{add-one}
 use native.Mathlib.Omega.{arith}
 use lib.ListN.{length, get_or, set, drop, replicate, length-set, length-replicate, drop_of_length-le}
-use lib.Seq.{sets, sets-eq, drop-cons, set-set, set_comm, get_or-set_same, get_or-set_other}
+use lib.Seq.{sets, sets-eq, drop-cons, drop-drop, set-set, set_comm, get_or-set_same, get_or-set_other}
+use borrow.Rule.Slice.PartMut.{put_mid}
 use Rattle.basics.proofs.Lists.{drop-replicate}
 
 -- the first of several stores, and those that are left
@@ -41,6 +42,12 @@ pub sets_front : {A : Type 0} (s : List A) (n : ℕ) (a : A) → length s ≤ n 
 sets_front s n a h =
     let e : 0 + length s ≤ length (replicate n a) = rw (zero-add, length-replicate) h in
     sets-eq s (replicate n a) 0 e ∙ rw (zero-add, drop-replicate)
+
+-- what a write to the part of k elements from the a-th on leaves
+pub put_mid_sets : {A : Type 0} (a k : ℕ) (s z : List A) → length z ≡ k → a + k ≤ length s → put_mid a k s z ≡ sets s a z
+put_mid_sets a k s z e h =
+    let fits : a + length z ≤ length s = omega arith in
+    rw (drop-drop, sets-eq z s a fits, e, append_assoc)
 
 -- ---- stores at several places
 

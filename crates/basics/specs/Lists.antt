@@ -1,5 +1,6 @@
 -- Tests on lists.
-use Rattle.std.specs.Prelude.{ℕ, List, [], ◌∷◌, Bool, true, false, cond, ◌&&◌, ◌||◌, eqb}
+use Rattle.std.specs.Prelude.{ℕ, List, [], ◌∷◌, Bool, true, false, cond, ◌&&◌, ◌||◌}
+use Rattle.std.specs.Str.{bytes_eq}
 
 module _ {A : Type 0} where
   -- the test passes at every element
@@ -19,7 +20,4 @@ module _ {A : Type 0} where
 
 -- two lists of numbers are the same
 unfoldable pub same : List ℕ → List ℕ → Bool
-same [] [] = true
-same [] (y ∷ ys) = false
-same (x ∷ xs) [] = false
-same (x ∷ xs) (y ∷ ys) = eqb x y && same xs ys
+same s t = bytes_eq s t
