@@ -2,7 +2,7 @@
 // lowest first.
 #![tactic(auto)]
 
-ghost use Rattle.std.specs.Prelude.{◌≡◌, ℕ, ◌+◌, ◌-◌, ◌≤◌, ◌<◌, ◌^◌, length, drop};
+ghost use Rattle.std.specs.Prelude.{◌≡◌, ℕ, IfSome, ◌+◌, ◌-◌, ◌≤◌, ◌<◌, ◌^◌, length, drop};
 ghost use Rattle.std.proofs.lemmas.List.Edits.{sets};
 ghost use Rattle.postings.specs.Coding.{vbyte, code, code_length, value, at_most, decoded};
 ghost use Rattle.postings.specs.Claims.{RoundTrips};
@@ -99,7 +99,7 @@ fn code_length(bits: usize) -> usize
     requires { bits < 35 }
     ensures { result ≡ code_length bits }
 {
-    CODE_LENGTHS[bits] as usize
+    usize::from(CODE_LENGTHS[bits])
 }
 
 // How many bytes code a value.
@@ -111,12 +111,13 @@ fn value_length(v: u64) -> usize
 }
 
 // How many bytes code a posting.
+#[tactic(auto, using(crate::proofs::Codes::length_high, crate::proofs::Codes::code_low))]
 pub fn posting_length(gap: u32, count: u32) -> usize
     requires { 0 < gap }
     ensures { result ≡ length (code gap count) }
 {
-    let g = gap as u64;
-    let f = count as u64;
+    let g = u64::from(gap);
+    let f = u64::from(count);
     if f < 4 {
         value_length((g - 1) * 4 + f)
     } else {
@@ -141,12 +142,13 @@ fn put_value(s: &mut [u8], at: usize, v: u64) -> usize
 }
 
 // Writes a posting from `at` on, and returns the offset past it.
+#[tactic(auto, using(crate::proofs::Codes::code_low, crate::proofs::Codes::code_high, crate::proofs::Codes::length_high, basics::proofs::Stores::sets_behind))]
 pub fn put_posting(s: &mut [u8], at: usize, gap: u32, count: u32) -> usize
     requires { (0 < gap) × (at + length (code gap count) ≤ length s.old) }
     ensures { (result ≡ at + length (code gap count)) × (s.new ≡ sets s.old at (code gap count)) }
 {
-    let g = gap as u64;
-    let f = count as u64;
+    let g = u64::from(gap);
+    let f = u64::from(count);
     if f < 4 {
         put_value(s, at, (g - 1) * 4 + f)
     } else {
@@ -158,22 +160,23 @@ pub fn put_posting(s: &mut [u8], at: usize, gap: u32, count: u32) -> usize
 // The value at the front of s, where it is at most `most`.
 fn read_value(s: &[u8], most: u64) -> Option<Value>
     requires { most < 2 ^ 35 }
-    ensures { result ≡ at_most most (value s.now) }
+    ensures is { result ≡ at_most most (value s.now) }
+    ensures within { IfSome result (λ n. (n.value ≤ most) × (n.length ≤ length s.now)) }
 {
     let mut v: u64 = 0;
     let mut weight: u64 = 1;
-    // a sixth byte would take the value past 35 bits
-    for (i, b) in s.iter().take(5).enumerate() {
+    for (i, b) in s.iter().enumerate() {
         let b = u64::from(*b);
         if b < 128 {
-            let n = v + b * weight;
-            if b == 0 || most < n {
-                return None;
-            }
-            return Some(Value {
-                value: n,
+            let value = v + b * weight;
+            return (0 < b && value <= most).then_some(Value {
+                value,
                 length: i + 1,
             });
+        }
+        // a sixth byte would take the value past 35 bits
+        if i == 4 {
+            return None;
         }
         v += (b - 128) * weight;
         weight *= 128;
@@ -181,35 +184,40 @@ fn read_value(s: &[u8], most: u64) -> Option<Value>
     None
 }
 
+// The largest first and second value of a posting, whose gap and count have 32 bits.
+const MAX_FIRST: u64 = 4 * (u32::MAX as u64);
+
+const MAX_SECOND: u64 = (u32::MAX as u64) - 3;
+
 // The posting at the front of s, of any length.
+#[tactic(auto, unfolding(crate::specs::Coding::decoded, crate::specs::Coding::first, crate::specs::Coding::second))]
 fn decode_long(s: &[u8]) -> Option<Decoded>
     ensures { result ≡ decoded s.now }
 {
-    let first = read_value(s, 17179869180)?;
-    let v = first.value;
-    let n = first.length;
-    let f = v % 4;
-    if 0 < f {
+    let first = read_value(s, MAX_FIRST)?;
+    let count = first.value % 4;
+    if 0 < count {
         return Some(Decoded {
-            gap: (v / 4 + 1) as u32,
-            count: f as u32,
-            length: n,
+            gap: (first.value / 4 + 1) as u32,
+            count: count as u32,
+            length: first.length,
         });
     }
-    let second = read_value(&s[n..], 4294967292)?;
+    let second = read_value(&s[first.length..], MAX_SECOND)?;
     Some(Decoded {
-        gap: (v / 4) as u32,
+        gap: (first.value / 4) as u32,
         count: (second.value + 3) as u32,
-        length: n + second.length,
+        length: first.length + second.length,
     })
 }
 
 // The posting that stands in s from `at` on. Most postings take one byte or two: these are read without a call, from the bytes as they stand.
+#[tactic(auto, using(crate::proofs::Codes::at_one, crate::proofs::Codes::at_two, crate::proofs::Codes::at_pair))]
 pub fn decode_at(s: &[u8], at: usize) -> Option<Decoded>
     requires { at < length s.now }
     ensures { result ≡ decoded (drop at s.now) }
 {
-    let b = s[at] as u32;
+    let b = u32::from(s[at]);
     let f = b % 4;
     if 0 < f {
         if b < 128 {
@@ -220,7 +228,7 @@ pub fn decode_at(s: &[u8], at: usize) -> Option<Decoded>
             });
         }
         if at + 1 < s.len() {
-            let d = s[at + 1] as u32;
+            let d = u32::from(s[at + 1]);
             if 0 < d && d < 128 {
                 return Some(Decoded {
                     gap: (b - 128 + 128 * d) / 4 + 1,
@@ -232,7 +240,7 @@ pub fn decode_at(s: &[u8], at: usize) -> Option<Decoded>
     } else {
         // 4 divides the value: a second one gives the count
         if 0 < b && b < 128 && at + 1 < s.len() {
-            let d = s[at + 1] as u32;
+            let d = u32::from(s[at + 1]);
             if 0 < d && d < 128 {
                 return Some(Decoded {
                     gap: b / 4,
@@ -250,7 +258,7 @@ pub fn decode_at(s: &[u8], at: usize) -> Option<Decoded>
 pub fn decode(s: &[u8]) -> Option<Decoded>
     ensures { result ≡ decoded s.now }
 {
-    if 0 < s.len() {
+    if !s.is_empty() {
         return decode_at(s, 0);
     }
     decode_long(s)
