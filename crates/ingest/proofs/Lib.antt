@@ -1,4 +1,5 @@
 pub mod Places
+pub mod Standing
 pub mod Plans
 pub mod Writing
 pub mod Keeping

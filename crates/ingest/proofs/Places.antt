@@ -1,14 +1,17 @@
 -- Where a line goes: what its place says of the term's head.
 -- Assumes nothing.
-use mathlib.Core.Path.{◌≡◌, refl, sym}
+use mathlib.Core.Path.{◌≡◌, refl, sym, ◌∙◌}
 use mathlib.Core.Bool.{Bool, true, false, cond}
-use mathlib.Core.List.{List, map}
-use Prim.Native.Nat.{ℕ, ◌≤◌, ◌<◌}
+use mathlib.Core.List.{List}
+use Prim.Native.Nat.{ℕ, zero, suc, ◌%◌, ◌≤◌, ◌<◌}
 use native.Mathlib.Omega.{arith}
 use borrow.Author.Tests.{ltb-false}
 use lib.Dec.{ltb}
+use Rattle.std.specs.Prelude.{Result, Ok, Err}
+use Rattle.basics.proofs.Cases.{by-eq}
 use Rattle.basics.proofs.Lists.{or_left, or_right}
-use Rattle.frames.specs.Frames.{Line, count_bytes, count_at, fields, folded_at, line_at}
+use Rattle.terms.specs.Terms.{fnv1a}
+use Rattle.frames.specs.Frames.{count_at, folded_at, line_at}
 use Rattle.frames.proofs.Laws.{line-term, line-count}
 use Rattle.blocks.specs.declared.Head.{Head}
 use Rattle.blocks.specs.Fields.{link_of, head_of}
@@ -16,15 +19,17 @@ use Rattle.blocks.specs.Writes.{fits, Appends, InTail}
 use Rattle.blocks.proofs.Capacity.{block_inside}
 use Rattle.chains.specs.Chains.{bad_head}
 use Rattle.chains.proofs.Laws.{Good, head_good}
+use Rattle.refusals.specs.declared.Refusal.{Refusal}
+use Rattle.refusals.specs.declared.Refusal.TheVariants.{Damaged}
 use Rattle.lookup.specs.declared.Found.{Found}
-use Rattle.lookup.specs.declared.Found.TheVariants as found
-use Rattle.lookup.specs.Lookup.{search as sought}
-use Rattle.lookup.proofs.Search.{search-at}
+use Rattle.lookup.specs.declared.Found.TheVariants.{At, Unknown}
+use Rattle.lookup.specs.Lookup.{slots, next_slot, search_from, search as sought}
+use Rattle.lookup.proofs.Search.{Step, vacant, unused, found, passed, step, from-none, search-none, search-some, search-at}
 use Rattle.counters.specs.declared.Counters.{Counters}
 use Rattle.counters.specs.Counters.{Memory}
-use Rattle.ingest.specs.declared.Place.TheVariants.{Damaged, Stays, Spills}
-use Rattle.ingest.specs.Report.{next_number, line_of, damaged_head, place_at, placed, place_of, terms_for}
-use Rattle.ingest.specs.Needs.{Room, Below}
+use Rattle.ingest.specs.declared.Place.TheVariants.{Stays, Spills}
+use Rattle.ingest.specs.Report.{next_number, line_of, damaged_head, place_at, placed, place_of}
+use Rattle.ingest.specs.Needs.{Room, Below, HeadIs}
 
 -- ---- a known term's head
 
@@ -64,47 +69,50 @@ fine_appends a k h d r u w = record {
 pub fine_tail : (a : List ℕ) (k : Counters) (h : ℕ) → Fine a k h (head_of a h) → InTail a h (head_of a h)
 fine_tail a k h w = record { stands = refl; behind = omega (arith, w.good.past) }
 
+-- judged, a head is refused as damaged or handed out
+pub head_told : (a : List ℕ) (k : Counters) (h : ℕ) {d : Head} (x : Bool) → d ≡ head_of a h → damaged_head a k h d ≡ x → HeadIs a k h (cond x (Err Damaged) (Ok d))
+head_told a k h true e q = (refl, rw (← e) q)
+head_told a k h false e q = (e, q)
+
 module _ (a : List ℕ) (k : Counters) (f h : ℕ) where
-  pub at-damaged : damaged_head a k h (head_of a h) ≡ true → place_at a k f h ≡ Damaged
+  pub at-damaged : damaged_head a k h (head_of a h) ≡ true → place_at a k f h ≡ Err Damaged
   unfolding place_at
   at-damaged e = rw e
 
   module _ (e : damaged_head a k h (head_of a h) ≡ false) where
-    pub at-stays : fits (head_of a h) (next_number k) f ≡ true → place_at a k f h ≡ Stays h
+    pub at-stays : fits (head_of a h) (next_number k) f ≡ true → place_at a k f h ≡ Ok (Stays h)
     unfolding place_at
     at-stays q = rw (e, q)
 
-    pub at_spills : fits (head_of a h) (next_number k) f ≡ false → place_at a k f h ≡ Spills h
+    pub at_spills : fits (head_of a h) (next_number k) f ≡ false → place_at a k f h ≡ Ok (Spills h)
     unfolding place_at
     at_spills q = rw (e, q)
-
--- its line brings no term more
-pub at-terms : (a : List ℕ) (k : Counters) (f h : ℕ) → terms_for (place_at a k f h) ≡ 0
-unfolding place_at terms_for
-at-terms a k f h = go (damaged_head a k h (head_of a h)) (fits (head_of a h) (next_number k) f)
-  where
-    go : (x b : Bool) → terms_for (cond x Damaged (cond b (Stays h) (Spills h))) ≡ 0
-    go true b = refl
-    go false true = refl
-    go false false = refl
 
 -- ---- what a search finds
 
 -- a head that a search finds is a used block
-pub found_below : (a : List ℕ) (used : ℕ) (table w : List ℕ) {x : Found} → x ≡ sought a used table w → Below used x
-unfolding Below
-found_below a used table w {x} e = go x e
-  where
-    go : (x : Found) → x ≡ sought a used table w → Below used x
-    go (found.At h) q = (search-at a used table w h (sym q)).below
-    go (found.Unknown s) q = tt
-    go found.Damaged q = tt
+pub found_below : (a : List ℕ) (used : ℕ) (table w : List ℕ) (x : Found) → sought a used table w ≡ Ok x → Below used x
+found_below a used table w (At h) e = (search-at a used table w h e).below
+found_below a used table w (Unknown s) e = tt
+
+-- a search is refused for damage alone
+module _ (a : List ℕ) (used : ℕ) (table w : List ℕ) {r : Refusal} where
+  from_damage : (left s : ℕ) → search_from left a used table w s ≡ Err r → r ≡ Damaged
+  from_damage zero s e = cc (from-none a used table w 0 s (omega arith))
+  from_damage (suc left) s e = go (step a used table w left s) (from_damage left (next_slot (slots table) s))
+    where
+      go : Step a used table w left s → (search_from left a used table w (next_slot (slots table) s) ≡ Err r → r ≡ Damaged) → r ≡ Damaged
+      go (vacant n q) ih = cc
+      go (unused n g q) ih = cc
+      go (found n m q) ih = cc
+      go (passed n m q) ih = ih (sym q ∙ e)
+
+  pub sought_damage : sought a used table w ≡ Err r → r ≡ Damaged
+  sought_damage e =
+      by-eq (slots table) 0 (λ z. cc (search-none a used table w z))
+      (λ n. from_damage (slots table) (fnv1a w % slots table) (sym (search-some a used table w (omega arith)) ∙ e))
 
 -- ---- the line at an offset of a frame
-
--- the lines from there on
-abbrev pub lines_from : List ℕ → ℕ → List Line
-lines_from f at = map (line_at f) (fields count_bytes f at)
 
 -- w and n are its folded term and its count
 module _ (f : List ℕ) (at : ℕ) {w : List ℕ} {n : ℕ} (b : w ≡ folded_at f at) (q : n ≡ count_at f at) where

@@ -1,33 +1,34 @@
 -- Writing: what one line takes and keeps, and lines one after another.
 -- Assumes nothing.
 use mathlib.Core.Path.{◌≡◌, refl, sym, ap, ◌∙◌}
-use mathlib.Core.Bool.{Bool, true, false, cond, ◌||◌, or-false}
+use mathlib.Core.Bool.{Bool, true, false, cond}
 use mathlib.Core.List.{List, [], ◌∷◌}
 use Prim.Native.Nat.{ℕ, ◌+◌, ◌-◌, ◌≤◌, ◌<◌}
 use native.Mathlib.Nat.{add-zero}
 use native.Mathlib.Omega.{arith}
-use borrow.Author.Tests.{eq-eqb, ne_eqb, lt-ltb, le-ltb}
-use lib.Dec.{ltb, eqb}
+use borrow.Author.Tests.{eq-eqb, ne_eqb}
+use lib.Dec.{eqb}
 use lib.ListN.{length}
+use Rattle.std.specs.Prelude.{Result, Ok, Err}
 use Rattle.basics.specs.Lists.{any}
 use Rattle.basics.proofs.Cases.{by-eq}
 use Rattle.frames.specs.Refusals.{first_of}
-use Rattle.frames.specs.Frames.{Line, count_bytes, first_line, past_field, line_at, report_lines, report_refusal}
-use Rattle.frames.proofs.Laws.{Sound, sound-on, sound-lines, lines_more, lines_end}
+use Rattle.frames.specs.Frames.{Line, line_at, report_lines}
 use Rattle.blocks.specs.Fields.{max_word, capacity}
 use Rattle.blocks.proofs.Capacity.{capacity_as}
 use Rattle.blocks.proofs.Writes.{length-open_head, length-add_to, length-join_to}
-use Rattle.lookup.specs.declared.Found.TheVariants as found
+use Rattle.refusals.specs.declared.Refusal.{Refusal}
+use Rattle.lookup.specs.declared.Found.TheVariants.{At}
 use Rattle.lookup.specs.Lookup.{search as sought}
 use Rattle.lookup.proofs.Search.{length-enter}
 use Rattle.counters.specs.Counters.{Memory, max_terms}
 use Rattle.counters.proofs.Laws.{max_terms_as, Right}
 use Rattle.ingest.specs.declared.Place.{Place}
-use Rattle.ingest.specs.declared.Place.TheVariants.{Damaged, New, Stays, Spills}
-use Rattle.ingest.specs.Report.{next_number, place_at, placed, place_of, is_damaged, terms_for, blocks_for, total, plan_of, plan_rows, lines_plan, written, Writing, wrote_as, write_lines}
-use Rattle.ingest.specs.Needs.{Held, write_one, append_one}
-use Rattle.ingest.proofs.Places.{at-terms, lines_from}
-use Rattle.ingest.proofs.Plans.{passed}
+use Rattle.ingest.specs.declared.Place.TheVariants.{New, Stays, Spills}
+use Rattle.ingest.specs.Report.{next_number, place_at, placed, place_of, Placed, is_damaged, terms_for, blocks_for, total, plan_of, plan_rows, lines_plan, written, Writing, wrote_as, write_lines}
+use Rattle.ingest.specs.Needs.{Held, write_one}
+use Rattle.ingest.proofs.Standing.{lines_from, lines_whole}
+use Rattle.ingest.proofs.Plans.{plan_damaged, plan_blocks, plan_none, passed}
 
 abbrev pub HeldIn : Memory → Type 0
 HeldIn m = Held m.arena m.table m.counters
@@ -41,44 +42,44 @@ held_right m r n h = record { room = record { inside = r.inside; numbered = omeg
 
 module _ (m : Memory) (n : ℕ) (l : Line) where
   -- it takes the blocks and terms that its place needs, and leaves the reports
-  pub written-used : (p : Place) → (written m n l p).counters.used ≡ m.counters.used + blocks_for p
+  pub written-used : (p : Placed) → (written m n l p).counters.used ≡ m.counters.used + blocks_for p
   unfolding written blocks_for
-  written-used Damaged = sym (add-zero m.counters.used)
-  written-used (New s) = refl
-  written-used (Stays h) = sym (add-zero m.counters.used)
-  written-used (Spills h) = refl
+  written-used (Err r) = sym (add-zero m.counters.used)
+  written-used (Ok (New s)) = refl
+  written-used (Ok (Stays h)) = sym (add-zero m.counters.used)
+  written-used (Ok (Spills h)) = refl
 
-  pub written-terms : (p : Place) → (written m n l p).counters.terms ≡ m.counters.terms + terms_for p
+  pub written-terms : (p : Placed) → (written m n l p).counters.terms ≡ m.counters.terms + terms_for p
   unfolding written terms_for
-  written-terms Damaged = sym (add-zero m.counters.terms)
-  written-terms (New s) = refl
-  written-terms (Stays h) = sym (add-zero m.counters.terms)
-  written-terms (Spills h) = sym (add-zero m.counters.terms)
+  written-terms (Err r) = sym (add-zero m.counters.terms)
+  written-terms (Ok (New s)) = refl
+  written-terms (Ok (Stays h)) = sym (add-zero m.counters.terms)
+  written-terms (Ok (Spills h)) = sym (add-zero m.counters.terms)
 
-  pub written-reports : (p : Place) → (written m n l p).counters.reports ≡ m.counters.reports
+  pub written-reports : (p : Placed) → (written m n l p).counters.reports ≡ m.counters.reports
   unfolding written
-  written-reports Damaged = refl
-  written-reports (New s) = refl
-  written-reports (Stays h) = refl
-  written-reports (Spills h) = refl
+  written-reports (Err r) = refl
+  written-reports (Ok (New s)) = refl
+  written-reports (Ok (Stays h)) = refl
+  written-reports (Ok (Spills h)) = refl
 
   -- arena and table keep their lengths
-  pub written-arena : (p : Place) → length (written m n l p).arena ≡ length m.arena
+  pub written-arena : (p : Placed) → length (written m n l p).arena ≡ length m.arena
   unfolding written
-  written-arena Damaged = refl
-  written-arena (New s) = rw length-open_head
-  written-arena (Stays h) = rw length-add_to
-  written-arena (Spills h) = rw length-join_to
+  written-arena (Err r) = refl
+  written-arena (Ok (New s)) = rw length-open_head
+  written-arena (Ok (Stays h)) = rw length-add_to
+  written-arena (Ok (Spills h)) = rw length-join_to
 
-  pub written-table : (p : Place) → length (written m n l p).table ≡ length m.table
+  pub written-table : (p : Placed) → length (written m n l p).table ≡ length m.table
   unfolding written
-  written-table Damaged = refl
-  written-table (New s) = length-enter m.table s m.counters.used
-  written-table (Stays h) = refl
-  written-table (Spills h) = refl
+  written-table (Err r) = refl
+  written-table (Ok (New s)) = length-enter m.table s m.counters.used
+  written-table (Ok (Stays h)) = refl
+  written-table (Ok (Spills h)) = refl
 
   -- so a line that was judged leaves blocks and terms within their bounds
-  pub written_held : (p : Place) → HeldIn m → first_of (plan_rows m (plan_of (p ∷ []))) ≡ 0 → HeldIn (written m n l p)
+  pub written_held : (p : Placed) → HeldIn m → first_of (plan_rows m (plan_of (p ∷ []))) ≡ 0 → HeldIn (written m n l p)
   unfolding plan_of total
   written_held p h z =
       let w = passed m (plan_of (p ∷ [])) z in
@@ -93,7 +94,7 @@ module _ (m : Memory) (n : ℕ) (l : Line) where
 -- ---- one line, judged on its own
 
 module _ (m : Memory) (n : ℕ) (l : Line) where
-  module _ (p : Place) where
+  module _ (p : Placed) where
     pub one_written : first_of (plan_rows m (plan_of (p ∷ []))) ≡ 0 → write_one m n l p ≡ wrote_as (written m n l p) false
     unfolding write_one
     one_written e = rw (eq-eqb (first_of (plan_rows m (plan_of (p ∷ [])))) 0 e)
@@ -107,48 +108,31 @@ module _ (m : Memory) (n : ℕ) (l : Line) where
     one-keeps P h on =
         by-eq (first_of (plan_rows m (plan_of (p ∷ [])))) 0 (λ e. rw (one_written e) (on e)) (λ e. rw (one-stops e) h)
 
-    -- a known term's, where the terms held are few enough
-    pub append-one : m.counters.terms ≤ max_terms m.table → terms_for p ≡ 0 → append_one m n l p ≡ write_one m n l p
-    unfolding append_one write_one plan_rows first_of plan_of any total
-    append-one h e =
-        rw (e, or-false (is_damaged p), add-zero m.counters.terms, add-zero (blocks_for p), le-ltb (max_terms m.table) m.counters.terms h)
-        (go (is_damaged p) (ltb (capacity m.arena - m.counters.used) (blocks_for p)) (wrote_as m true) (wrote_as (written m n l p) false))
-      where
-        go : (x y : Bool) (s w : Writing) → cond (x || y) s w ≡ cond (eqb (cond x 10 (cond y 12 0)) 0) w s
-        go true y s w = refl
-        go false true s w = refl
-        go false false s w = refl
-
   -- by its place
-  pub one-damaged : write_one m n l Damaged ≡ wrote_as m true
-  unfolding write_one plan_rows first_of plan_of any is_damaged
-  one-damaged = refl
+  pub one-damaged : (r : Refusal) → write_one m n l (Err r) ≡ wrote_as m true
+  unfolding plan_of any is_damaged
+  one-damaged r = one-stops (Err r) (λ z. absurd (omega (arith, plan_damaged m (plan_of (Err r ∷ [])) refl)))
 
-  pub append-damaged : append_one m n l Damaged ≡ wrote_as m true
-  unfolding append_one is_damaged
-  append-damaged = refl
+  -- a known term's brings no term more, so that the terms held stay few enough
+  module _ (few : m.counters.terms ≤ max_terms m.table) (h : ℕ) where
+    pub one-stays : write_one m n l (Ok (Stays h)) ≡ wrote_as (written m n l (Ok (Stays h))) false
+    unfolding plan_of any is_damaged total terms_for blocks_for
+    one-stays = one_written (Ok (Stays h)) (plan_none m (plan_of (Ok (Stays h) ∷ [])) refl (omega arith) (omega arith))
 
-  pub append-stays : (h : ℕ) → append_one m n l (Stays h) ≡ wrote_as (written m n l (Stays h)) false
-  unfolding append_one is_damaged blocks_for
-  append-stays h = rw (le-ltb (capacity m.arena - m.counters.used) 0 (omega arith))
+    -- no block is left
+    pub one-full : capacity m.arena ≡ m.counters.used → write_one m n l (Ok (Spills h)) ≡ wrote_as m true
+    unfolding plan_of any is_damaged total terms_for blocks_for
+    one-full e =
+        one-stops (Ok (Spills h)) (λ z. absurd (omega (arith, plan_blocks m (plan_of (Ok (Spills h) ∷ [])) refl (omega arith) (omega arith))))
 
-  -- no block is left
-  pub append-full : (h : ℕ) → capacity m.arena ≡ m.counters.used → append_one m n l (Spills h) ≡ wrote_as m true
-  unfolding append_one is_damaged blocks_for
-  append-full h e = rw (lt-ltb (capacity m.arena - m.counters.used) 1 (omega arith))
+    pub one_spills : m.counters.used < capacity m.arena → write_one m n l (Ok (Spills h)) ≡ wrote_as (written m n l (Ok (Spills h))) false
+    unfolding plan_of any is_damaged total terms_for blocks_for
+    one_spills u = one_written (Ok (Spills h)) (plan_none m (plan_of (Ok (Spills h) ∷ [])) refl (omega arith) (omega arith))
 
-  pub append_spills : (h : ℕ) → m.counters.used < capacity m.arena → append_one m n l (Spills h) ≡ wrote_as (written m n l (Spills h)) false
-  unfolding append_one is_damaged blocks_for
-  append_spills h u = rw (le-ltb (capacity m.arena - m.counters.used) 1 (omega arith))
-
--- the line of a term that is found goes where its head says, and brings no term more
-module _ (m : Memory) (l : Line) (h : ℕ) (e : sought m.arena m.counters.used m.table l.term ≡ found.At h) where
-  pub known_place : place_of m l ≡ place_at m.arena m.counters l.count h
-  unfolding place_of placed
-  known_place = rw e
-
-  pub known_one : (n : ℕ) → m.counters.terms ≤ max_terms m.table → append_one m n l (place_at m.arena m.counters l.count h) ≡ write_one m n l (place_of m l)
-  known_one n few = rw known_place (append-one m n l _ few (at-terms m.arena m.counters l.count h))
+-- the line of a term that is found goes where its head says
+pub known_place : (m : Memory) (l : Line) (h : ℕ) → sought m.arena m.counters.used m.table l.term ≡ Ok (At h) → place_of m l ≡ place_at m.arena m.counters l.count h
+unfolding place_of placed
+known_place m l h e = rw e
 
 -- ---- one line after another
 
@@ -188,51 +172,50 @@ module _ (n : ℕ) where
   lines-table ls m =
       lines_keep (λ x. length x.table ≡ length m.table) (λ x l h e. written-table x n l (place_of x l) ∙ h) ls m refl
 
--- ---- the lines of a frame, from an offset on
+-- ---- the lines of a report, from the n-th on
 
--- the memory m that the lines of f before `at` made of m₀
-pub record Wrote (m₀ : Memory) (f : List ℕ) (m : Memory) (at : ℕ) : Type 0 where
+-- the memory m that the first n lines of f made of m₀
+pub record Wrote (m₀ : Memory) (f : List ℕ) (m : Memory) (n : ℕ) : Type 0 where
   pub held : HeldIn m
   pub arena : length m.arena ≡ length m₀.arena
   pub table : length m.table ≡ length m₀.table
   pub reports : m.counters.reports ≡ m₀.counters.reports
-  pub rest : write_lines m₀ (next_number m₀.counters) (report_lines f) ≡ write_lines m (next_number m₀.counters) (lines_from f at)
-  pub sound : Sound count_bytes f at
+  pub rest : write_lines m₀ (next_number m₀.counters) (report_lines f) ≡ write_lines m (next_number m₀.counters) (lines_from f n)
 
-pub wrote_none : (m : Memory) (f : List ℕ) → HeldIn m → report_refusal f ≡ 0 → Wrote m f m first_line
-unfolding report_lines
-wrote_none m f h z = record { held = h; arena = refl; table = refl; reports = refl; rest = refl; sound = sound-lines f z }
+pub wrote_none : (m : Memory) (f : List ℕ) → HeldIn m → Wrote m f m 0
+wrote_none m f h =
+    record { held = h; arena = refl; table = refl; reports = refl; rest = ap (write_lines m (next_number m.counters)) (sym (lines_whole f)) }
 
-module _ {m₀ : Memory} {f : List ℕ} {m : Memory} {at : ℕ} (w : Wrote m₀ f m at) where
-  -- at the frame's end all lines are written
-  pub wrote_end : length f ≤ at → wrote_as m false ≡ write_lines m₀ (next_number m₀.counters) (report_lines f)
-  wrote_end h = sym (w.rest ∙ rw (lines_end f at h) (write_none (next_number m₀.counters) m))
+module _ {m₀ : Memory} {f : List ℕ} {m : Memory} {n : ℕ} (w : Wrote m₀ f m n) where
+  -- where no line is left all are written
+  pub wrote_end : lines_from f n ≡ [] → wrote_as m false ≡ write_lines m₀ (next_number m₀.counters) (report_lines f)
+  wrote_end e = sym (w.rest ∙ rw e (write_none (next_number m₀.counters) m))
 
   -- the line there, and what it leaves
-  module _ (h : at < length f) {x : Memory} {b : Bool} {l : Line} (i : l ≡ line_at f at) (q : wrote_as x b ≡ write_one m (next_number m.counters) l (place_of m l)) where
+  module _ (at : ℕ) (more : lines_from f n ≡ line_at f at ∷ lines_from f (n + 1)) {x : Memory} {b : Bool} {l : Line} (i : l ≡ line_at f at)
+      (q : wrote_as x b ≡ write_one m (next_number m.counters) l (place_of m l)) where
     left_is : wrote_as x b ≡ write_one m (next_number m₀.counters) (line_at f at) (place_of m (line_at f at))
     left_is = rw i at (q ∙ ap (λ (r : ℕ). write_one m (r + 1) l (place_of m l)) w.reports)
 
-    rest-is : write_lines m₀ (next_number m₀.counters) (report_lines f) ≡ cond b (wrote_as x b) (write_lines x (next_number m₀.counters) (lines_from f (past_field count_bytes f at)))
+    rest-is : write_lines m₀ (next_number m₀.counters) (report_lines f) ≡ cond b (wrote_as x b) (write_lines x (next_number m₀.counters) (lines_from f (n + 1)))
     rest-is =
-        w.rest ∙ rw (lines_more f at h, write_more (next_number m₀.counters) m (line_at f at) (lines_from f (past_field count_bytes f at)), ← left_is)
+        w.rest ∙ rw (more, write_more (next_number m₀.counters) m (line_at f at) (lines_from f (n + 1)), ← left_is)
 
     -- where it stops, nothing else is written
     pub wrote_stop : b ≡ true → wrote_as x b ≡ write_lines m₀ (next_number m₀.counters) (report_lines f)
     wrote_stop e = sym (rest-is ∙ rw e)
 
     -- else writing goes on behind it
-    pub wrote_more : b ≡ false → Wrote m₀ f x (past_field count_bytes f at)
+    pub wrote_more : b ≡ false → Wrote m₀ f x (n + 1)
     wrote_more e =
-        let n = next_number m₀.counters in
+        let k = next_number m₀.counters in
         let a = line_at f at in
         let p = place_of m a in
-        let left : x ≡ (write_one m n a p).left = ap (λ (v : Writing). v.left) left_is in
+        let left : x ≡ (write_one m k a p).left = ap (λ (v : Writing). v.left) left_is in
         rw left record {
-          held = one-keeps m n a p HeldIn w.held (written_held m n a p w.held);
-          arena = one-keeps m n a p (λ y. length y.arena ≡ length m₀.arena) w.arena (λ z. written-arena m n a p ∙ w.arena);
-          table = one-keeps m n a p (λ y. length y.table ≡ length m₀.table) w.table (λ z. written-table m n a p ∙ w.table);
-          reports = one-keeps m n a p (λ y. y.counters.reports ≡ m₀.counters.reports) w.reports (λ z. written-reports m n a p ∙ w.reports);
+          held = one-keeps m k a p HeldIn w.held (written_held m k a p w.held);
+          arena = one-keeps m k a p (λ y. length y.arena ≡ length m₀.arena) w.arena (λ z. written-arena m k a p ∙ w.arena);
+          table = one-keeps m k a p (λ y. length y.table ≡ length m₀.table) w.table (λ z. written-table m k a p ∙ w.table);
+          reports = one-keeps m k a p (λ y. y.counters.reports ≡ m₀.counters.reports) w.reports (λ z. written-reports m k a p ∙ w.reports);
           rest = rest-is ∙ rw (e, left);
-          sound = sound-on w.sound h;
         }

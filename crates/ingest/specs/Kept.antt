@@ -1,12 +1,12 @@
 -- What is kept of the searches that were made before writing, so that most lines need no second search at their turn.
-use Rattle.std.specs.Prelude.{ℕ, ◌%◌, ◌<◌, ◌≡◌, cond, List, eqb, length, get_or, set}
+use Rattle.std.specs.Prelude.{ℕ, ◌%◌, ◌<◌, ◌≡◌, Ok, Err, Bool, true, cond, List, eqb, length, get_or, set}
 use Rattle.terms.specs.Terms.{fnv1a}
 use Rattle.frames.specs.Frames.{Line, lines, line_at}
 use Rattle.blocks.specs.Fields.{head_of}
 use Rattle.lookup.specs.Lookup.{search, first_entry, first_hit}
 use Rattle.counters.specs.Counters.{Memory}
-use Rattle.ingest.specs.declared.Place.{Place}
-use Rattle.ingest.specs.declared.Place.TheVariants.{Damaged, New, Stays, Spills}
+use Rattle.ingest.specs.declared.Place.TheVariants.{New, Stays, Spills}
+use Rattle.ingest.specs.Report.{Placed}
 
 -- ---- heads found
 
@@ -28,12 +28,12 @@ abbrev pub mark_of : ℕ → ℕ
 mark_of b = b % mark_count
 
 -- a posting in the tail of head h: a tail that is the head itself keeps its term
-unfoldable pub mark_tail : List ℕ → ℕ → ℕ → List ℕ
-mark_tail marks h tail = cond (eqb tail h) marks (set marks (mark_of tail) 1)
+unfoldable pub mark_tail : List Bool → ℕ → ℕ → List Bool
+mark_tail marks h tail = cond (eqb tail h) marks (set marks (mark_of tail) true)
 
 -- a line at its place, on the arena before it
-unfoldable pub marking : List ℕ → List ℕ → Place → List ℕ
-marking a marks Damaged = marks
-marking a marks (New s) = marks
-marking a marks (Stays h) = mark_tail marks h (head_of a h).tail
-marking a marks (Spills h) = marks
+unfoldable pub marking : List ℕ → List Bool → Placed → List Bool
+marking a marks (Ok (New s)) = marks
+marking a marks (Ok (Stays h)) = mark_tail marks h (head_of a h).tail
+marking a marks (Ok (Spills h)) = marks
+marking a marks (Err r) = marks

@@ -1,0 +1,14 @@
+-- The tail of a sound head is used, so that it lies in the arena.
+use mathlib.Core.Path.{sym, ◌∙◌}
+use Rattle.blocks.proofs.Capacity.{block_inside}
+use Rattle.chains.proofs.Laws.{head_good}
+use Rattle.ingest.proofs.is_damaged.Goals as goal
+use Rattle.ingest.proofs.Plans.{planned_none}
+use Rattle.ingest.proofs.Writing.{wrote_none}
+use Rattle.ingest.proofs.Keeping.{keeps-none}
+use Rattle.ingest.proofs.Calls.{answers}
+
+pub link_of-first-requires : goal.link_of-first-requires
+link_of-first-requires c =
+    let a = c.args in
+    block_inside a.arena.now a.k.used c.requires.0.inside a.d.tail (head_good a.d a.k.used a.h (sym c.is_bad_head.ensures ∙ c.if-is_bad_head.false)).tail
