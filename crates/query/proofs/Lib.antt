@@ -7,7 +7,7 @@ pub mod Seeking
 pub mod Windowed
 pub mod Gathering
 pub mod Asking
-pub mod Listed
+pub mod Progress
 pub mod Naming
 pub mod Order
 pub mod All

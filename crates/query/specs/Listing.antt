@@ -1,13 +1,14 @@
--- Listing reports (document 01, "Taking a report, listing reports"; rows 1 to 5, 8 and 10 of "Where each refusal is checked").
-use Rattle.std.specs.Prelude.{ℕ, min, List, [], ◌∷◌, ◌++◌, map, Bool, false, cond, not, ◌&&◌, ltb, leb, eqb, length, take}
+-- Listing reports, and the refusals of a listing: 1 to 5 of its frame, 8, and 10.
+use Rattle.std.specs.Prelude.{ℕ, min, List, [], ◌∷◌, ◌++◌, map, Result, Ok, Err, Bool, false, cond, not, ◌&&◌, ltb, leb, eqb, length, take}
 use Rattle.std.proofs.lemmas.List.Edits.{sets}
 use Rattle.basics.specs.Lists.{all, any, keep}
 use Rattle.frames.specs.Refusals.{Row, ◌if◌, first_of}
 use Rattle.frames.specs.Frames.{query_rows, query_start, query_terms}
 use Rattle.blocks.specs.Prescribed.{Posting}
 use Rattle.chains.specs.Chains.{Reading, damaged, whole, is_whole, chain_of}
+use Rattle.refusals.specs.declared.Refusal.{Refusal}
 use Rattle.lookup.specs.declared.Found.{Found}
-use Rattle.lookup.specs.declared.Found.TheVariants as found
+use Rattle.lookup.specs.declared.Found.TheVariants.{At, Unknown}
 use Rattle.lookup.specs.Lookup.{search}
 use Rattle.counters.specs.Counters.{Memory, wrong_counters}
 use Rattle.query.specs.declared.ListAnswer.{ListAnswer}
@@ -15,10 +16,10 @@ use Rattle.query.specs.declared.ListAnswer.{ListAnswer}
 -- ---- the chains of the named terms
 
 -- a known term's chain is read whole; an unknown term has no postings
-unfoldable pub read_found : Memory → Found → Reading
-read_found m (found.At h) = chain_of m.arena m.counters.used m.counters.reports h
-read_found m (found.Unknown s) = whole []
-read_found m found.Damaged = damaged
+unfoldable pub read_found : Memory → Result Found Refusal → Reading
+read_found m (Ok (At h)) = chain_of m.arena m.counters.used m.counters.reports h
+read_found m (Ok (Unknown s)) = whole []
+read_found m (Err r) = damaged
 
 unfoldable pub read_term : Memory → List ℕ → Reading
 read_term m w = read_found m (search m.arena m.counters.used m.table w)

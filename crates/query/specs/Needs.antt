@@ -1,29 +1,39 @@
 -- What the functions of this crate share: a named term's chain, the postings of a head, and cursors that move forward together.
-use Rattle.std.specs.Prelude.{◌≡◌, ℕ, suc, ◌+◌, ◌-◌, ◌≤◌, ◌<◌, List, [], ◌∷◌, ◌++◌, map, Bool, true, false, cond, ◌||◌, ltb, leb, eqb, length, get_or, take, drop, set}
-use Rattle.basics.specs.Lists.{all, keep}
+use Rattle.std.specs.Prelude.{◌≡◌, ℕ, suc, ◌+◌, ◌-◌, ◌≤◌, ◌<◌, List, [], map, Option, Some, None, Result, Ok, Err, Bool, true, false, cond, ◌||◌, ltb, leb, eqb, length, get_or, take, set}
+use Rattle.basics.specs.Lists.{keep}
+use Rattle.refusals.specs.declared.Refusal.{Refusal}
+use Rattle.refusals.specs.declared.Refusal.TheVariants.{Damaged}
+use Rattle.refusals.specs.Numbers.{number_of}
 use Rattle.frames.specs.Frames.{first_term, query_refusal, query_start, query_terms}
 use Rattle.counters.specs.Counters.{Memory}
-use Rattle.blocks.specs.Fields.{link_size, block_size, head_of, capacity, place}
+use Rattle.blocks.specs.Fields.{link_size, head_of, capacity}
 use Rattle.blocks.specs.Prescribed.{Posting}
 use Rattle.chains.specs.declared.Cursor.{Cursor}
-use Rattle.chains.specs.declared.Step.TheVariants as step
 use Rattle.chains.specs.Parts.{InPart}
-use Rattle.chains.specs.Chains.{Reading, part_end, exhausted, read_at, next_block, run, at_head, is_whole, chain_of, Follows}
+use Rattle.chains.specs.Chains.{Reading, part_end, exhausted, stepped, damage, read_at, next_block, run, at_head, is_whole, chain_of, Follows}
 use Rattle.lookup.specs.declared.Found.{Found}
-use Rattle.lookup.specs.declared.Found.TheVariants as found
+use Rattle.lookup.specs.declared.Found.TheVariants.{At, Unknown}
 use Rattle.counters.specs.declared.Counters.{Counters}
-use Rattle.query.specs.declared.Chain.{Chain}
-use Rattle.query.specs.declared.Chain.TheVariants.{Damaged, Unknown, Sound}
-use Rattle.query.specs.declared.Chains.{Chains}
-use Rattle.query.specs.declared.Chains.TheVariants as chains
 use Rattle.query.specs.declared.ListAnswer.{ListAnswer}
-use Rattle.query.specs.Listing.{ListedOne, ListedAll, postings_in, holds, common, damaged_terms, matches}
+use Rattle.query.specs.declared.listed.Listed.{Listed}
+use Rattle.query.specs.Listing.{ListedOne, ListedAll, refused, postings_in, holds, common, damaged_terms, matches}
 
--- a term's chain as the search found it
-unfoldable pub chain_as : List ℕ → Counters → Found → Chain
-chain_as a k (found.At h) = cond (is_whole (chain_of a k.used k.reports h)) (Sound h) Damaged
-chain_as a k (found.Unknown s) = Unknown
-chain_as a k found.Damaged = Damaged
+-- ---- the answer of a listing
+
+abbrev pub listed_as : Bool → ℕ → ListAnswer
+listed_as more filled = record { refusal = 0; more = more; filled = filled }
+
+abbrev pub answer_as : Result Listed Refusal → ListAnswer
+answer_as (Ok l) = listed_as l.more l.filled
+answer_as (Err r) = refused (number_of r)
+
+-- ---- one term
+
+-- the head of a term's chain as the search found it: none where the term is unknown, and damage where the chain is not whole
+unfoldable pub chain_as : List ℕ → Counters → Result Found Refusal → Result (Option ℕ) Refusal
+chain_as a k (Ok (At h)) = cond (is_whole (chain_of a k.used k.reports h)) (Ok (Some h)) (Err Damaged)
+chain_as a k (Ok (Unknown s)) = Ok None
+chain_as a k (Err r) = Err r
 
 -- head h is used and its chain is sound
 pub record Readable (a : List ℕ) (k : Counters) (h : ℕ) : Type 0 where
@@ -42,21 +52,18 @@ filled_as r numbers counts = record { answer = r; numbers = numbers; counts = co
 pub data Fills (a : List ℕ) (reports start : ℕ) (c₀ : Cursor) (numbers₀ counts₀ : List ℕ) (n₀ : ℕ) : Cursor → List ℕ → List ℕ → ℕ → Type 0 where
   none : Fills a reports start c₀ numbers₀ counts₀ n₀ c₀ numbers₀ counts₀ n₀
   over : {c c' : Cursor} {numbers counts : List ℕ} {n m f : ℕ} → Fills a reports start c₀ numbers₀ counts₀ n₀ c numbers counts n
-      → exhausted a c ≡ false → read_at a reports c c.number ≡ step.Posting m f c' → m < start
+      → exhausted a c ≡ false → read_at a reports c c.number ≡ stepped m f c' → m < start
       → Fills a reports start c₀ numbers₀ counts₀ n₀ c' numbers counts n
   stored : {c c' : Cursor} {numbers counts : List ℕ} {n m f : ℕ} → Fills a reports start c₀ numbers₀ counts₀ n₀ c numbers counts n
-      → exhausted a c ≡ false → read_at a reports c c.number ≡ step.Posting m f c' → start ≤ m → n < length numbers → n < length counts
+      → exhausted a c ≡ false → read_at a reports c c.number ≡ stepped m f c' → start ≤ m → n < length numbers → n < length counts
       → Fills a reports start c₀ numbers₀ counts₀ n₀ c' (set numbers n m) (set counts n f) (n + 1)
 
 -- and they are filled as far as they can be: where both have room and the part is not at its end, no posting can be read
 pub record FillsOut (a : List ℕ) (reports start : ℕ) (c₀ : Cursor) (numbers₀ counts₀ : List ℕ) (n₀ : ℕ) (c : Cursor) (numbers counts : List ℕ) (n : ℕ) : Type 0 where
   pub fills : Fills a reports start c₀ numbers₀ counts₀ n₀ c numbers counts n
-  pub stops : n < length numbers → n < length counts → c.at < part_end c c.block → read_at a reports c c.number ≡ step.Damaged
+  pub stops : n < length numbers → n < length counts → c.at < part_end c c.block → read_at a reports c c.number ≡ damage
 
 -- ---- all terms
-
-abbrev pub listed_as : Bool → ℕ → ListAnswer
-listed_as more filled = record { refusal = 0; more = more; filled = filled }
 
 abbrev pub all_as : ListAnswer → List ℕ → ListedAll
 all_as r numbers = record { answer = r; numbers = numbers }
@@ -88,7 +95,7 @@ pub record Skipped (a : List ℕ) (k : Counters) (c : Cursor) (number : ℕ) (r 
   pub passing : Passing a k c number r
   pub forward : c.number ≤ r.number
   pub begun : 0 < r.first
-  pub last : {n f : ℕ} {r' : Cursor} → (r.block ≡ r.tail → ⊥) → next_block a k.used k.reports r ≡ step.Posting n f r' → number < n
+  pub last : {n f : ℕ} {r' : Cursor} → (r.block ≡ r.tail → ⊥) → next_block a k.used k.reports r ≡ stepped n f r' → number < n
 
 -- to the first report from `number` on: it has none of them where it stopped before `number`
 pub record Sought (a : List ℕ) (k : Counters) (c : Cursor) (number : ℕ) (r : Cursor) : Type 0 where
@@ -100,24 +107,23 @@ abbrev pub postings_at : List ℕ → Counters → ℕ → List Posting
 postings_at a k h = postings_in (chain_of a k.used k.reports h)
 
 -- 1 to 8 heads with sound chains
-pub record Heads (a : List ℕ) (k : Counters) (hs : List ℕ) (count : ℕ) : Type 0 where
-  pub some : 0 < count
-  pub few : count ≤ 8
-  pub there : count ≤ length hs
-  pub readable : (i : ℕ) → i < count → Readable a k (get_or hs i 0)
+pub record Heads (a : List ℕ) (k : Counters) (hs : List ℕ) : Type 0 where
+  pub some : 0 < length hs
+  pub few : length hs ≤ 8
+  pub readable : (i : ℕ) → i < length hs → Readable a k (get_or hs i 0)
 
 -- what stands in the places that no head has
 abbrev pub nowhere : Cursor
 nowhere = record { tail = 0; end = 0; block = 0; at = 0; number = 0; first = 0; left = 0 }
 
 -- a cursor before the first posting of each head
-pub record Opened (a : List ℕ) (k : Counters) (hs : List ℕ) (count : ℕ) (cs : List Cursor) : Type 0 where
+pub record Opened (a : List ℕ) (k : Counters) (hs : List ℕ) (cs : List Cursor) : Type 0 where
   pub eight : length cs ≡ 8
-  pub at : (i : ℕ) → i < count → get_or cs i nowhere ≡ at_head (head_of a (get_or hs i 0)) k.used (get_or hs i 0)
+  pub at : (i : ℕ) → i < length hs → get_or cs i nowhere ≡ at_head (head_of a (get_or hs i 0)) k.used (get_or hs i 0)
 
 -- the reports that all heads' chains hold, at or past the start
-unfoldable pub all_from : List ℕ → Counters → List ℕ → ℕ → ℕ → List Posting
-all_from a k hs count start = common start (map (postings_at a k) (take count hs))
+unfoldable pub all_from : List ℕ → Counters → List ℕ → ℕ → List Posting
+all_from a k hs start = common start (map (postings_at a k) hs)
 
 -- a sound query's frame from its first term on, with room for its heads
 pub record Named (a : List ℕ) (k : Counters) (f : List ℕ) (at : ℕ) (hs : List ℕ) : Type 0 where
@@ -126,31 +132,16 @@ pub record Named (a : List ℕ) (k : Counters) (f : List ℕ) (at : ℕ) (hs : L
   pub start : at ≡ first_term
   pub room : length hs ≡ 8
 
--- what the chains of the named terms tell: damage; or that nothing matches; or the matches, by the heads
-unfoldable pub Told : Memory → List ℕ → List ℕ → Chains → Type 0
-Told m f hs chains.Damaged = damaged_terms m (query_terms f) ≡ true
-Told m f hs chains.Unknown = (damaged_terms m (query_terms f) ≡ false) × (matches m f ≡ [])
-Told m f hs (chains.Sound n) =
+-- what the chains of the named terms tell: damage; or that nothing matches; or the matches, by the first n heads
+unfoldable pub Told : Memory → List ℕ → List ℕ → Result (Option ℕ) Refusal → Type 0
+Told m f hs (Err r) = (r ≡ Damaged) × (damaged_terms m (query_terms f) ≡ true)
+Told m f hs (Ok None) = (damaged_terms m (query_terms f) ≡ false) × (matches m f ≡ [])
+Told m f hs (Ok (Some n)) =
     (damaged_terms m (query_terms f) ≡ false)
-    × Heads m.arena m.counters hs n
-    × (matches m f ≡ all_from m.arena m.counters hs n (query_start f))
+    × (n ≤ length hs)
+    × Heads m.arena m.counters (take n hs)
+    × (matches m f ≡ all_from m.arena m.counters (take n hs) (query_start f))
 
--- ---- the order in which chains are asked
-
--- the heads' blocks lie in the arena
-abbrev pub HeadsInside : List ℕ → List ℕ → Type 0
-HeadsInside a hs = all (λ h. leb (place h + block_size) (length a)) hs ≡ true
-
--- head h before the first of the others that has as many postings or more
-unfoldable pub inserted : List ℕ → ℕ → List ℕ → List ℕ
-inserted a h [] = h ∷ []
-inserted a h (g ∷ gs) = cond (ltb (head_of a g).postings (head_of a h).postings) (g ∷ inserted a h gs) (h ∷ g ∷ gs)
-
--- the head at place `at` so put among those behind it
-abbrev pub inserted_at : List ℕ → List ℕ → ℕ → List ℕ
-inserted_at a hs at = take at hs ++ inserted a (get_or hs at 0) (drop (at + 1) hs)
-
--- all heads in the order of their numbers of postings, the rarest first: each is put among those behind it, which are in order by then
-unfoldable pub rarest_first : List ℕ → List ℕ → List ℕ
-rarest_first a [] = []
-rarest_first a (h ∷ hs) = inserted a h (rarest_first a hs)
+-- by how many postings a head has the chains are asked in their order; 0 where there is no such block
+unfoldable pub rarity : List ℕ → ℕ → ℕ
+rarity a h = cond (ltb h (capacity a)) (head_of a h).postings 0

@@ -1,10 +1,11 @@
 -- Windows of 64 reports: each report of a window has a bit of a 64-bit number, the first report the highest.
-use Rattle.std.specs.Prelude.{ℕ, zero, suc, ◌+◌, ◌-◌, ◌/◌, ◌%◌, ◌^◌, ◌≤◌, ◌<◌, ◌≡◌, List, Bool, true, false, cond, ◌&&◌, leb, eqb, length, get_or, set}
+use Rattle.std.specs.Prelude.{ℕ, zero, suc, ◌+◌, ◌-◌, ◌/◌, ◌%◌, ◌^◌, ◌≤◌, ◌<◌, ◌≡◌, min, max, List, Option, Some, None, Bool, true, false, cond, ◌&&◌, leb, eqb, length, get_or, set}
+use Rattle.blocks.specs.Fields.{max_word}
 use Rattle.chains.specs.declared.Cursor.{Cursor}
-use Rattle.chains.specs.declared.Step.TheVariants as step
-use Rattle.chains.specs.Chains.{step_at}
+use Rattle.chains.specs.Chains.{stepped, step_at}
 use Rattle.counters.specs.declared.Counters.{Counters}
-use Rattle.query.specs.declared.Put.{Put}
+use Rattle.query.specs.declared.Marked.{Marked}
+use Rattle.query.specs.declared.Window.{Window}
 use Rattle.query.specs.Listing.{holds}
 use Rattle.query.specs.Needs.{Stands, Sought, ahead, postings_at, nowhere}
 
@@ -49,7 +50,7 @@ pub record Settled (base n mask : ℕ) : Type 0 where
 -- a cursor has moved on, posting by posting, and each report that it came to is marked, up to `to`
 pub data Marking (a : List ℕ) (k : Counters) (base to : ℕ) (c₀ : Cursor) (m₀ : ℕ) : Cursor → ℕ → Type 0 where
   none : Marking a k base to c₀ m₀ c₀ m₀
-  on : {c c' : Cursor} {m n f : ℕ} → Marking a k base to c₀ m₀ c m → c.number < to → step_at a k.used k.reports c ≡ step.Posting n f c'
+  on : {c c' : Cursor} {m n f : ℕ} → Marking a k base to c₀ m₀ c m → c.number < to → step_at a k.used k.reports c ≡ stepped n f c'
       → Marking a k base to c₀ m₀ c' (with_mark base to m n)
 
 -- the reports of a chain from cursor c up to `to` are marked, and no others; cursor r is c moved on to the first report at or past `to`
@@ -66,12 +67,29 @@ pub data Puts (base mask₀ : ℕ) (numbers₀ : List ℕ) (n₀ : ℕ) : ℕ �
   put : {mask z mask' n : ℕ} {numbers : List ℕ} → Puts base mask₀ numbers₀ n₀ mask numbers n → FirstMarked mask z → Without mask z mask' → n < length numbers
       → Puts base mask₀ numbers₀ n₀ mask' (set numbers n (base + z)) (n + 1)
 
--- all of them, or as many as there are places
-pub record PutOut (base mask : ℕ) (numbers₀ : List ℕ) (n₀ : ℕ) (numbers : List ℕ) (r : Put) : Type 0 where
-  pub left : ℕ
-  pub puts : Puts base mask numbers₀ n₀ left numbers r.filled
-  pub full : r.full ≡ true → (0 < left) × (r.filled ≡ length numbers)
-  pub all : r.full ≡ false → left ≡ 0
+-- all of them, so that n places are filled; or as many as there are places, so that some are left
+abbrev pub PutOut : ℕ → ℕ → List ℕ → ℕ → List ℕ → Option ℕ → Type 0
+PutOut base mask numbers₀ n₀ numbers (Some n) = Puts base mask numbers₀ n₀ 0 numbers n
+PutOut base mask numbers₀ n₀ numbers None = (left : ℕ) × (0 < left) × Puts base mask numbers₀ n₀ left numbers (length numbers)
+
+-- ---- a window as chains are asked for it
+
+-- its last report, or the last that there can be
+abbrev pub window_end : ℕ → ℕ
+window_end base = min (base + 63) max_word
+
+-- before a chain is asked all its reports are marked, and the next window begins behind it
+abbrev pub window_from : ℕ → Window
+window_from base = record { base = base; to = window_end base; mask = 18446744073709551615; next = window_end base + 1 }
+
+-- what is left of it where a chain was asked, which gave the marks m: the reports marked by both, up to the last of them
+pub record Narrowed (w : Window) (m : Marked) (r : Window) : Type 0 where
+  pub base : r.base ≡ w.base
+  pub in_bits : r.mask < 2 ^ 64
+  pub marks : (n : ℕ) → In w.base n → is_marked r.mask w.base n ≡ is_marked w.mask w.base n && is_marked m.mask w.base n
+  pub to_in : In w.base w.to → In w.base r.to
+  pub last : (n : ℕ) → In w.base n → is_marked r.mask w.base n ≡ true → n ≤ r.to
+  pub next : r.next ≡ max w.next m.place.number
 
 -- ---- the chains of several heads
 
@@ -81,7 +99,6 @@ all_hold a k hs zero n = true
 all_hold a k hs (suc i) n = all_hold a k hs i n && holds (postings_at a k (get_or hs i 0)) n
 
 -- a cursor for each head, which has the reports from `low` on of the head's chain
-pub record Streams (a : List ℕ) (k : Counters) (hs : List ℕ) (count low : ℕ) (cs : List Cursor) : Type 0 where
-  pub there : count ≤ length hs
-  pub stands : (j : ℕ) → j < count → Stands a k (get_or cs j nowhere)
-  pub same : (j : ℕ) → j < count → (n : ℕ) → low ≤ n → holds (postings_at a k (get_or hs j 0)) n ≡ ahead a k (get_or cs j nowhere) n
+pub record Streams (a : List ℕ) (k : Counters) (hs : List ℕ) (low : ℕ) (cs : List Cursor) : Type 0 where
+  pub stands : (j : ℕ) → j < length hs → Stands a k (get_or cs j nowhere)
+  pub same : (j : ℕ) → j < length hs → (n : ℕ) → low ≤ n → holds (postings_at a k (get_or hs j 0)) n ≡ ahead a k (get_or cs j nowhere) n
