@@ -5,8 +5,10 @@ use mathlib.Core.Path.{◌≡◌, refl, sym, ap, ◌∙◌}
 use mathlib.Core.Bool.{Bool, true, false, ◌||◌}
 use mathlib.Core.List.{List, [], ◌∷◌}
 use native.Mathlib.Omega.{arith}
+use Rattle.std.specs.Prelude.{Some, None, Ok, Err}
+use Rattle.refusals.specs.declared.Refusal.{Refusal}
 use lib.Dec.{eqb}
-use lib.ListN.{get_or, set, length-set}
+use lib.ListN.{length, get_or, set, length-set}
 use lib.Seq.{get_or-set_same, get_or-set_other}
 use Rattle.basics.proofs.Cases.{by-lt, by-eq}
 use borrow.Author.Tests.{ne_eqb}
@@ -14,21 +16,18 @@ use Rattle.basics.specs.Lists.{any}
 use Rattle.blocks.specs.Fields.{head_of, capacity, part_of}
 use Rattle.blocks.specs.Prescribed.{Posting}
 use Rattle.chains.specs.declared.Cursor.{Cursor}
-use Rattle.chains.specs.declared.Step.{Step}
-use Rattle.chains.specs.declared.Step.TheVariants as step
-use Rattle.chains.specs.Chains.{part_end, whole, exhausted, read_at, next_block, step_at, at_head, chain_of}
-use Rattle.postings.specs.Coding.{decoded}
-use Rattle.postings.specs.declared.Decoded.TheVariants as code
+use Rattle.chains.specs.Chains.{Stepped, stepped, at_end, damaged, follow, part_end, whole, exhausted, read_at, next_block, step_at, at_head, chain_of}
+use Rattle.postings.specs.Coding.{posting, decoded}
 use Rattle.sums.specs.Adding.{Bounded}
 use Rattle.sums.proofs.Adding.{bounded_by}
 use Rattle.chains.specs.Parts.{moved_to, passed_to, InPart}
-use Rattle.chains.proofs.Steps.{part_end_le, step_next, step_here}
+use Rattle.chains.proofs.Steps.{part_end_le, step_next, step_here, same_step}
 use Rattle.chains.proofs.Parts.{Within, here, on, part_drop, part_all, part_more, part_posting, part_over, step_part, within-number, passed_to_lem, part_end-moved}
 use Rattle.chains.proofs.Skipping.{read-moved, next_earlier, read_more, next_more}
-use Rattle.chains.proofs.Laws.{step_follows, rest, whole-posting, whole_end, whole_undamaged, head-follows, head-rest, is-whole, chain-whole, whole_is}
+use Rattle.chains.proofs.Laws.{step_follows, rest, whole-posting, whole_end, run_step, head-follows, head-rest, is-whole, chain-whole, whole_is}
 use Rattle.counters.specs.declared.Counters.{Counters}
 use Rattle.query.specs.Listing.{postings_in, holds}
-use Rattle.query.specs.Needs.{Readable, Stands, Passing, Sought, Opened, nowhere, ahead, postings_at}
+use Rattle.query.specs.Needs.{Readable, Stands, Passing, Sought, nowhere, ahead, postings_at}
 
 or-false : (a : Bool) → a || false ≡ a
 or-false true = refl
@@ -49,6 +48,14 @@ pub holds-none : (n : ℕ) → holds [] n ≡ false
 unfolding holds any
 holds-none n = refl
 
+-- where the rest is whole a step is never refused
+pub never_refused : (a : List ℕ) (used reports : ℕ) (c : Cursor) (ps : List Posting) → rest a used reports c ≡ whole ps
+    → (r : Refusal) → step_at a used reports c ≡ Err r → ⊥
+unfolding follow
+never_refused a used reports c ps w r e =
+    let d : rest a used reports c ≡ damaged = run_step a used reports (reports - c.number) c ∙ rw e in
+    cc
+
 module _ (a : List ℕ) (k : Counters) where
   -- where the rest is known, the reports ahead are
   ahead-is : (c : Cursor) (ps : List Posting) → rest a k.used k.reports c ≡ whole ps → (n : ℕ) → ahead a k c n ≡ eqb c.number n || holds ps n
@@ -60,45 +67,45 @@ module _ (a : List ℕ) (k : Counters) where
   none_before [] c n w h = holds-none n
   none_before (p ∷ ps) c n w h = go (step_at a k.used k.reports c) refl (none_before ps)
     where
-      go : (s : Step) → step_at a k.used k.reports c ≡ s
+      go : (x : Stepped) → step_at a k.used k.reports c ≡ x
           → ((c' : Cursor) (n : ℕ) → rest a k.used k.reports c' ≡ whole ps → n ≤ c'.number → holds ps n ≡ false) → holds (p ∷ ps) n ≡ false
-      go (step.Posting m f c') e ih =
+      go (Ok (Some x)) e ih =
           let s = step_follows a k.used k.reports c e in
           let v = whole-posting a k.used k.reports c (p ∷ ps) w e in
-          let x : ps ≡ v.0 = rest-same v.2 in
-          let y : p.number ≡ m = ap (λ (q : Posting). q.number) (first-same v.2) in
+          let i : ps ≡ v.0 = rest-same v.2 in
+          let y : p.number ≡ x.number = ap (λ (q : Posting). q.number) (first-same v.2) in
           let z : p.number ≡ n → ⊥ = λ q. omega (arith, s.ascends) in
-          holds-cons p ps n ∙ rw (ne_eqb p.number n z) (ih c' n (v.1 ∙ ap whole (sym x)) (omega (arith, s.number, s.ascends)))
-      go step.End e ih = let z : ◌≡◌ {A = ℕ} 0 1 = cc (whole_end a k.used k.reports c (p ∷ ps) w e) in absurd (omega arith)
-      go step.Damaged e ih = absurd (whole_undamaged a k.used k.reports c (p ∷ ps) w e)
+          holds-cons p ps n ∙ rw (ne_eqb p.number n z) (ih x.next n (v.1 ∙ ap whole (sym i)) (omega (arith, s.number, s.ascends)))
+      go (Ok None) e ih = cc (whole_end a k.used k.reports c (p ∷ ps) w e)
+      go (Err r) e ih = absurd (never_refused a k.used k.reports c (p ∷ ps) w r e)
 
   -- nor one over reports
   none_over : (ps : List Posting) (c : Cursor) (n : ℕ) → rest a k.used k.reports c ≡ whole ps → k.reports < n → holds ps n ≡ false
   none_over [] c n w h = holds-none n
   none_over (p ∷ ps) c n w h = go (step_at a k.used k.reports c) refl (none_over ps)
     where
-      go : (s : Step) → step_at a k.used k.reports c ≡ s
+      go : (x : Stepped) → step_at a k.used k.reports c ≡ x
           → ((c' : Cursor) (n : ℕ) → rest a k.used k.reports c' ≡ whole ps → k.reports < n → holds ps n ≡ false) → holds (p ∷ ps) n ≡ false
-      go (step.Posting m f c') e ih =
+      go (Ok (Some x)) e ih =
           let s = step_follows a k.used k.reports c e in
           let v = whole-posting a k.used k.reports c (p ∷ ps) w e in
-          let x : ps ≡ v.0 = rest-same v.2 in
-          let y : p.number ≡ m = ap (λ (q : Posting). q.number) (first-same v.2) in
+          let i : ps ≡ v.0 = rest-same v.2 in
+          let y : p.number ≡ x.number = ap (λ (q : Posting). q.number) (first-same v.2) in
           let z : p.number ≡ n → ⊥ = λ q. omega (arith, s.within) in
-          holds-cons p ps n ∙ rw (ne_eqb p.number n z) (ih c' n (v.1 ∙ ap whole (sym x)) h)
-      go step.End e ih = let z : ◌≡◌ {A = ℕ} 0 1 = cc (whole_end a k.used k.reports c (p ∷ ps) w e) in absurd (omega arith)
-      go step.Damaged e ih = absurd (whole_undamaged a k.used k.reports c (p ∷ ps) w e)
+          holds-cons p ps n ∙ rw (ne_eqb p.number n z) (ih x.next n (v.1 ∙ ap whole (sym i)) h)
+      go (Ok None) e ih = cc (whole_end a k.used k.reports c (p ∷ ps) w e)
+      go (Err r) e ih = absurd (never_refused a k.used k.reports c (p ∷ ps) w r e)
 
 module _ {a : List ℕ} {k : Counters} {c : Cursor} (s : Stands a k c) where
   reads : (ps : List Posting) × (rest a k.used k.reports c ≡ whole ps)
   reads = is-whole (rest a k.used k.reports c) s.sound
 
   -- damage is never met
-  pub stands_undamaged : step_at a k.used k.reports c ≡ step.Damaged → ⊥
-  stands_undamaged e = whole_undamaged a k.used k.reports c reads.0 reads.1 e
+  pub stands_undamaged : (r : Refusal) → step_at a k.used k.reports c ≡ Err r → ⊥
+  stands_undamaged r e = never_refused a k.used k.reports c reads.0 reads.1 r e
 
   -- at the chain's end only the report at the cursor is left
-  pub ahead_end : step_at a k.used k.reports c ≡ step.End → (n : ℕ) → ahead a k c n ≡ eqb c.number n
+  pub ahead_end : step_at a k.used k.reports c ≡ at_end → (n : ℕ) → ahead a k c n ≡ eqb c.number n
   ahead_end e n =
       let z : reads.0 ≡ [] = whole_end a k.used k.reports c reads.0 reads.1 e in
       ahead-is a k c [] (reads.1 ∙ ap whole z) n ∙ rw (holds-none n) (or-false (eqb c.number n))
@@ -111,7 +118,7 @@ module _ {a : List ℕ} {k : Counters} {c : Cursor} (s : Stands a k c) where
   pub ahead-over : (n : ℕ) → k.reports < n → ahead a k c n ≡ false
   ahead-over n h = ahead-is a k c reads.0 reads.1 n ∙ rw (ne_eqb c.number n (λ q. omega (arith, s.within)), none_over a k reads.0 c n reads.1 h)
 
-  module _ {m f : ℕ} {c' : Cursor} (e : step_at a k.used k.reports c ≡ step.Posting m f c') where
+  module _ {m f : ℕ} {c' : Cursor} (e : step_at a k.used k.reports c ≡ stepped m f c') where
     -- one step on
     pub stands_on : Stands a k c'
     stands_on =
@@ -152,14 +159,14 @@ pub passing_then : {a : List ℕ} {k : Counters} {c₀ c₁ c : Cursor} {number 
 passing_then p q = record { stands = q.stands; same = λ n i. p.same n i ∙ q.same n i }
 
 module _ {a : List ℕ} {k : Counters} {c₀ : Cursor} {number : ℕ} {c : Cursor} (p : Passing a k c₀ number c) where
-  pub passing-on : {m f : ℕ} {c' : Cursor} → c.number < number → step_at a k.used k.reports c ≡ step.Posting m f c' → Passing a k c₀ number c'
+  pub passing-on : {m f : ℕ} {c' : Cursor} → c.number < number → step_at a k.used k.reports c ≡ stepped m f c' → Passing a k c₀ number c'
   passing-on h e = record { stands = stands_on p.stands e; same = λ n i. p.same n i ∙ ahead-on p.stands e n (omega arith) }
 
   -- it is there, or the chain ends before
   pub arrived : number ≤ c.number → Sought a k c₀ number c
   arrived h = record { passing = p; none_left = λ l. absurd (omega arith) }
 
-  pub stopped : step_at a k.used k.reports c ≡ step.End → Sought a k c₀ number c
+  pub stopped : step_at a k.used k.reports c ≡ at_end → Sought a k c₀ number c
   stopped e = record { passing = p; none_left = λ l n i. ahead_end p.stands e n ∙ ne_eqb c.number n (λ q. omega arith) }
 
 -- several postings of a part
@@ -179,7 +186,7 @@ part_forward number s h = within-number (passed_to_lem (s.in_part h) number).1
 module _ {a : List ℕ} {k : Counters} where
   -- a posting that is decoded there is the cursor's next
   module _ {c : Cursor} (s : Stands a k c) (w : InPart a k.reports c) {g f l : ℕ}
-      (h : c.at < part_end c c.block) (e : decoded (part_of a c.block c.at (part_end c c.block)) ≡ code.Posting g f l) where
+      (h : c.at < part_end c c.block) (e : decoded (part_of a c.block c.at (part_end c c.block)) ≡ posting g f l) where
     abbrev next : Cursor
     next = moved_to c (c.at + l) (c.number + g)
 
@@ -189,7 +196,7 @@ module _ {a : List ℕ} {k : Counters} where
     part_bound : c.number + g ≤ k.reports
     part_bound =
         by-lt k.reports (c.number + g)
-        (λ u. absurd (stands_undamaged s (here_is ∙ part_over a k.reports c c.at c.number e u)))
+        (λ u. absurd (stands_undamaged s _ (here_is ∙ part_over a k.reports c c.at c.number e u)))
         (λ u. u)
 
     part_stands : Stands a k next
@@ -211,7 +218,7 @@ module _ {a : List ℕ} {k : Counters} where
 
 -- the next block begins with report n, and going there from c leaves the same reports from n on
 pub record Begins (a : List ℕ) (k : Counters) (c : Cursor) (n f : ℕ) (c' : Cursor) : Type 0 where
-  pub next : next_block a k.used k.reports c ≡ step.Posting n f c'
+  pub next : next_block a k.used k.reports c ≡ stepped n f c'
   pub ascends : c.number < n
   pub number : c'.number ≡ n
   pub begun : 0 < c'.first
@@ -224,7 +231,7 @@ Begun a k c = (n f : ℕ) × (c' : Cursor) × Begins a k c n f c'
 module _ {a : List ℕ} {k : Counters} where
   -- from the end of the block at hand it is one step
   begins_next : {c c' : Cursor} {n f : ℕ} → Stands a k c → step_at a k.used k.reports c ≡ next_block a k.used k.reports c
-      → next_block a k.used k.reports c ≡ step.Posting n f c' → Begins a k c n f c'
+      → next_block a k.used k.reports c ≡ stepped n f c' → Begins a k c n f c'
   begins_next {c} s e q =
       let t = step_follows a k.used k.reports c (e ∙ q) in
       record {
@@ -236,7 +243,7 @@ module _ {a : List ℕ} {k : Counters} where
       }
 
   -- from a posting before, one more is left behind
-  begins_before : {c c' : Cursor} {at m n f f' : ℕ} → Stands a k c → step_at a k.used k.reports c ≡ step.Posting m f' (moved_to c at m)
+  begins_before : {c c' : Cursor} {at m n f f' : ℕ} → Stands a k c → step_at a k.used k.reports c ≡ stepped m f' (moved_to c at m)
       → Begins a k (moved_to c at m) n f c' → Begins a k c n f c'
   begins_before {c} {at = at} {m = m} s e b =
       let t = step_follows a k.used k.reports c e in
@@ -248,7 +255,7 @@ module _ {a : List ℕ} {k : Counters} where
         passing = record { stands = b.passing.stands; same = λ i h. ahead-on s e i (omega (arith, t.ascends, b.ascends)) ∙ b.passing.same i h };
       }
 
-  begun-before : {c : Cursor} {at m f' : ℕ} → Stands a k c → step_at a k.used k.reports c ≡ step.Posting m f' (moved_to c at m) → Begun a k (moved_to c at m) → Begun a k c
+  begun-before : {c : Cursor} {at m f' : ℕ} → Stands a k c → step_at a k.used k.reports c ≡ stepped m f' (moved_to c at m) → Begun a k (moved_to c at m) → Begun a k c
   begun-before s e (n, f, c', b) = (n, f, c', begins_before s e b)
 
   -- by so many steps at most
@@ -256,20 +263,21 @@ module _ {a : List ℕ} {k : Counters} where
   begun_in zero c l s h t = absurd (omega arith)
   begun_in (suc fuel) c l s h t = go (exhausted a c) refl (begun_in fuel)
     where
-      over : step_at a k.used k.reports c ≡ next_block a k.used k.reports c → (x : Step) → next_block a k.used k.reports c ≡ x → Begun a k c
-      over e (step.Posting n f c') q = (n, f, c', begins_next s e q)
-      over e step.End q = absurd (next_more a k.used k.reports c q)
-      over e step.Damaged q = absurd (stands_undamaged s (e ∙ q))
+      over : step_at a k.used k.reports c ≡ next_block a k.used k.reports c → (x : Stepped) → next_block a k.used k.reports c ≡ x → Begun a k c
+      over e (Ok (Some x)) q = (x.number, x.count, x.next, begins_next s e q)
+      over e (Ok None) q = absurd (next_more a k.used k.reports c q)
+      over e (Err r) q = absurd (stands_undamaged s r (e ∙ q))
 
       on-from : exhausted a c ≡ false → ((d : Cursor) → k.reports - d.number < fuel → Stands a k d → 0 < d.first → (d.block ≡ d.tail → ⊥) → Begun a k d)
-          → (x : Step) → read_at a k.reports c c.number ≡ x → Begun a k c
-      on-from q ih (step.Posting m f' d) r =
-          let v = read-moved a k.reports c m f' d h r in
-          let e : step_at a k.used k.reports c ≡ step.Posting m f' (moved_to c v.0 m) = step_here a k.used k.reports c q ∙ r ∙ ap (step.Posting m f') v.1 in
+          → (x : Stepped) → read_at a k.reports c c.number ≡ x → Begun a k c
+      on-from q ih (Ok (Some x)) r =
+          let m = x.number in
+          let v = read-moved a k.reports c m x.count x.next h r in
+          let e : step_at a k.used k.reports c ≡ stepped m x.count (moved_to c v.0 m) = step_here a k.used k.reports c q ∙ r ∙ ap (stepped m x.count) v.1 in
           let u = step_follows a k.used k.reports c e in
           begun-before s e (ih (moved_to c v.0 m) (omega (arith, u.ascends, u.within)) (stands_on s e) h t)
-      on-from q ih step.End r = absurd (read_more a k.reports c c.number r)
-      on-from q ih step.Damaged r = absurd (stands_undamaged s (step_here a k.used k.reports c q ∙ r))
+      on-from q ih (Ok None) r = absurd (read_more a k.reports c c.number r)
+      on-from q ih (Err z) r = absurd (stands_undamaged s z (step_here a k.used k.reports c q ∙ r))
 
       go : (x : Bool) → exhausted a c ≡ x
           → ((d : Cursor) → k.reports - d.number < fuel → Stands a k d → 0 < d.first → (d.block ≡ d.tail → ⊥) → Begun a k d) → Begun a k c
@@ -281,22 +289,20 @@ module _ {a : List ℕ} {k : Counters} where
     begun : Begun a k c
     begun = begun_in (suc (k.reports - c.number)) c (omega arith) s h t
 
-    pub begins : {n f : ℕ} {c' : Cursor} → next_block a k.used k.reports c ≡ step.Posting n f c' → Begins a k c n f c'
+    pub begins : {n f : ℕ} {c' : Cursor} → next_block a k.used k.reports c ≡ stepped n f c' → Begins a k c n f c'
     begins e = go begun e
       where
-        go : {n f : ℕ} {c' : Cursor} → Begun a k c → next_block a k.used k.reports c ≡ step.Posting n f c' → Begins a k c n f c'
+        go : {n f : ℕ} {c' : Cursor} → Begun a k c → next_block a k.used k.reports c ≡ stepped n f c' → Begins a k c n f c'
         go {n} {f} {c'} (m, g, d, b) e =
-            let p : m ≡ n = cc b.next in
-            let q : g ≡ f = cc b.next in
-            let r : d ≡ c' = cc b.next in
-            rw (← p, ← q, ← r) b
+            let p = same_step (sym b.next ∙ e) in
+            rw (← p.0, ← p.1, ← p.2) b
 
-    pub begins_undamaged : next_block a k.used k.reports c ≡ step.Damaged → ⊥
-    begins_undamaged e = let z : ◌≡◌ {A = ℕ} 0 1 = cc begun.3.next in omega arith
+    pub begins_undamaged : (r : Refusal) → next_block a k.used k.reports c ≡ Err r → ⊥
+    begins_undamaged r e = cc begun.3.next
 
 -- what is read there is that posting
-pub begins_over : {a : List ℕ} {k : Counters} {c c' d : Cursor} {number n m f g : ℕ} → Begins a k c n f c' → number < n → next_block a k.used k.reports c ≡ step.Posting m g d → number < m
-begins_over {n = n} {m = m} b h e = let z : n ≡ m = cc b.next in omega arith
+pub begins_over : {a : List ℕ} {k : Counters} {c c' d : Cursor} {number n m f g : ℕ} → Begins a k c n f c' → number < n → next_block a k.used k.reports c ≡ stepped m g d → number < m
+begins_over {n = n} {m = m} b h e = omega (arith, (same_step (sym b.next ∙ e)).0)
 
 -- a block is left behind whose next one begins with a report up to the number
 pub passing_block : {a : List ℕ} {k : Counters} {c₀ c c' : Cursor} {number n f : ℕ} → Passing a k c₀ number c → Begins a k c n f c' → n ≤ number → Passing a k c₀ number c'
@@ -333,9 +339,14 @@ module _ {a : List ℕ} {k : Counters} {h : ℕ} (r : Readable a k h) where
         rw head_reads.1 (sym (ahead-is a k (at_head (head_of a h) k.used h) head_reads.0 head_reads.2 n ∙ rw (ne_eqb 0 n z)));
   }
 
+-- cursors before the first postings of the first i heads
+pub record OpenedTo (a : List ℕ) (k : Counters) (hs : List ℕ) (i : ℕ) (cs : List Cursor) : Type 0 where
+  pub eight : length cs ≡ 8
+  pub at : (j : ℕ) → j < i → get_or cs j nowhere ≡ at_head (head_of a (get_or hs j 0)) k.used (get_or hs j 0)
+
 -- one cursor more is opened
 pub opened_more : (a : List ℕ) (k : Counters) (hs : List ℕ) (i : ℕ) (cs : List Cursor) (c : Cursor) → i < 8 → c ≡ at_head (head_of a (get_or hs i 0)) k.used (get_or hs i 0)
-    → Opened a k hs i cs → Opened a k hs (i + 1) (set cs i c)
+    → OpenedTo a k hs i cs → OpenedTo a k hs (i + 1) (set cs i c)
 opened_more a k hs i cs c h e o = record {
   eight = length-set cs i c ∙ o.eight;
   at = λ j l.
