@@ -1,6 +1,7 @@
 pub mod Refusals
 pub mod Fields
 pub mod Heads
+pub mod Walk
 pub mod Conditions
 pub mod Read
 pub mod Repeats

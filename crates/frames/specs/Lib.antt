@@ -3,3 +3,4 @@ pub mod Frames
 pub mod Repeats
 pub mod Read
 pub mod Answers
+pub mod Walk

@@ -1,7 +1,7 @@
 // Reading a frame (document 01, "Frames"): refusals 1 to 7, and a cursor that hands out one line or term after another.
 #![tactic(auto)]
 
-ghost use Rattle.std.specs.Prelude.{◌≡◌, IfOk, OnOk, true, false, ◌+◌, ◌≤◌, ◌<◌, length};
+ghost use Rattle.std.specs.Prelude.{◌≡◌, IfOk, OnOk, true, false, ◌+◌, ◌-◌, ◌≤◌, ◌<◌, length};
 ghost use Rattle.basics.specs.Lists.{any, same};
 ghost use Rattle.frames.specs.Refusals.{first_of};
 ghost use Rattle.frames.specs.Frames.{
@@ -25,6 +25,8 @@ ghost use Rattle.frames.specs.Frames.{
   report_refusal,
   query_refusal,
 };
+ghost use Rattle.std.specs.Iterator.{at_most};
+ghost use Rattle.frames.specs.Walk.{Goes, from_first};
 ghost use Rattle.frames.specs.Answers.{byte_of, IsKind, IsQuery};
 ghost use Rattle.frames.specs.Repeats.{chain, Chained};
 ghost use Rattle.frames.specs.Read.{Folds, max_lines, Hashed, Read};
@@ -116,6 +118,56 @@ impl Cursor {
     }
 }
 
+// The fields of a frame from an offset on, one after another. All but the last are known to end within the frame.
+#[derive(Clone, Copy)]
+pub struct Cursors<'a> {
+    pub frame: &'a [u8],
+    pub at: usize,
+    pub tail: u8,
+}
+
+impl<'a> Cursors<'a> {
+    // The lines of a report.
+    pub fn lines(frame: &'a [u8]) -> Self
+        ensures { result ≡ from_first first_line count_bytes frame.entry }
+    {
+        Cursors {
+            frame,
+            at: 4,
+            tail: 4,
+        }
+    }
+
+    // The terms of a query.
+    pub fn terms(frame: &'a [u8]) -> Self
+        ensures { result ≡ from_first first_term 0 frame.entry }
+    {
+        Cursors {
+            frame,
+            at: 8,
+            tail: 0,
+        }
+    }
+}
+
+impl<'a> Iterator for Cursors<'a> {
+    type Item = Cursor;
+
+    ghost next_gives = { Goes };
+
+    ghost remaining = { λ s. at_most (length s.frame.now - s.at) };
+
+    #[tactic(auto, unfolding(crate::specs::Frames::past_field))]
+    fn next(&mut self) -> Option<Cursor> {
+        if self.frame.len() <= self.at {
+            return None;
+        }
+        let c = Cursor { at: self.at };
+        self.at += 1 + usize::from(self.frame[self.at]) + usize::from(self.tail);
+        Some(c)
+    }
+}
+
 // The offset past the field at `at`, which has `tail` bytes behind its term.
 fn past_field(frame: &[u8], at: usize, tail: usize) -> usize
     requires { (at < length frame.now) × (tail ≤ count_bytes) }
@@ -127,6 +179,7 @@ fn past_field(frame: &[u8], at: usize, tail: usize) -> usize
 // ---- the conditions
 
 // Refusals 1 to 3, the same for every call.
+#[tactic(auto, unfolding(crate::specs::Refusals::first_of, crate::specs::Frames::version, crate::specs::Frames::body_length, crate::specs::Frames::kind, crate::specs::Frames::wrong_version, crate::specs::Frames::wrong_length, crate::specs::Frames::wrong_kind, crate::specs::Frames::head_rows))]
 fn check_head(frame: &[u8], kind: Kind) -> Result<(), Refusal>
     ensures { refused_under result ≡ first_of (head_rows (byte_of kind) frame.now) }
 {
@@ -144,48 +197,29 @@ fn check_head(frame: &[u8], kind: Kind) -> Result<(), Refusal>
 }
 
 // Refusal 4: whether a field passes the frame's end.
-fn passes_end(frame: &[u8], from: usize, tail: usize) -> bool
-    requires { tail ≤ count_bytes }
-    ensures { result ≡ passes_end tail frame.now from }
+fn passes_end(mut left: Cursors) -> bool
+    requires { left.tail ≤ count_bytes }
+    ensures { result ≡ passes_end left.entry.tail left.entry.frame.now left.entry.at }
 {
-    let mut at = from;
-    while at < frame.len() {
-        let past = past_field(frame, at, tail);
-        if frame.len() < past {
-            return true;
-        }
-        at = past;
-    }
-    false
+    let frame = left.frame;
+    let tail = usize::from(left.tail);
+    left.any(|c| frame.len() < c.past(frame, tail).at)
 }
 
 // How many terms a query names.
 fn count_terms(frame: &[u8]) -> usize
-    requires { passes_end 0 frame.now first_term ≡ false }
     ensures { result ≡ length (terms frame.now) }
 {
-    let mut at: usize = 8;
-    let mut n: usize = 0;
-    while at < frame.len() {
-        at = past_field(frame, at, 0);
-        n += 1;
-    }
-    n
+    Cursors::terms(frame).count()
 }
 
 // Refusal 5: whether a field is not a term.
-fn bad_term(frame: &[u8], from: usize, tail: usize) -> bool
-    requires { (tail ≤ count_bytes) × (passes_end tail frame.now from ≡ false) }
-    ensures { result ≡ bad_term frame.now (fields tail frame.now from) }
+fn bad_term(mut left: Cursors) -> bool
+    requires { passes_end left.tail left.frame.now left.at ≡ false }
+    ensures { result ≡ bad_term left.entry.frame.now (fields left.entry.tail left.entry.frame.now left.entry.at) }
 {
-    let mut c = Cursor { at: from };
-    while c.at < frame.len() {
-        if !terms::is_term(c.term(frame)) {
-            return true;
-        }
-        c = c.past(frame, tail);
-    }
-    false
+    let frame = left.frame;
+    left.any(|c| !terms::is_term(c.term(frame)))
 }
 
 // Refusals 4 to 6 of a report in one pass, or how many lines there are. Stores the hash of each line's folded term.
@@ -195,25 +229,18 @@ fn read_lines(frame: &[u8], names: &[u8], hashes: &mut [u32]) -> Result<usize, R
     ensures count { IfOk result (λ n. (n ≡ length (lines frame.now)) × (n ≤ max_lines)) }
     ensures hashed { OnOk result (Hashed frame.now first_line 0 hashes.new) }
 {
-    let mut c = Cursor { at: 4 };
-    let mut n: usize = 0;
+    let mut n = 0;
     let mut bad = false;
     let mut zero = false;
-    while c.at < frame.len() {
-        let next = c.past(frame, 4);
-        if frame.len() < next.at {
+    for c in Cursors::lines(frame) {
+        if frame.len() < c.past(frame, 4).at {
             return Err(Refusal::WrongFields);
         }
         let line = terms::judge(c.name(frame, names));
         hashes[n] = line.hash;
         n += 1;
-        if !line.term {
-            bad = true;
-        }
-        if c.count(frame) == 0 {
-            zero = true;
-        }
-        c = next;
+        bad |= !line.term;
+        zero |= c.count(frame) == 0;
     }
     if bad {
         return Err(Refusal::BadTerm);
@@ -247,25 +274,21 @@ fn repeated_term(frame: &[u8], names: &[u8], hashes: &[u32]) -> bool
 {
     let mut last = [0u16; 256];
     let mut earlier = [0u16; 820];
-    let mut c = Cursor { at: 4 };
-    let mut n: usize = 0;
-    while c.at < frame.len() {
-        let at = c.at;
-        let bucket = (hashes[n] % 256) as usize;
+    for (c, hash) in Cursors::lines(frame).zip(hashes) {
+        let bucket = (hash % 256) as usize;
         let latest = last[bucket];
         if in_chain(frame, names, &earlier, latest, c) {
             return true;
         }
-        earlier[at / 5] = latest;
-        last[bucket] = at as u16;
-        n += 1;
-        c = c.past(frame, 4);
+        earlier[c.at / 5] = latest;
+        last[bucket] = c.at as u16;
     }
     false
 }
 
 // ---- the checks
 
+#[tactic(auto, unfolding(crate::specs::Refusals::first_of, crate::specs::Frames::head_rows, crate::specs::Frames::field_rows, crate::specs::Frames::report_rows, crate::specs::Frames::report_refusal))]
 // A report's frame, or how many lines it has. Leaves its folded bytes and the hashes of its lines to the caller, who looks the lines up by them.
 pub fn read_report(frame: &[u8], names: &mut [u8], hashes: &mut [u32]) -> Result<usize, Refusal>
     requires { (max_body + 3 ≤ length names.old) × (max_lines ≤ length hashes.old) }
@@ -293,19 +316,20 @@ pub fn check_report(frame: &[u8]) -> Result<usize, Refusal>
 }
 
 // A query's frame of the given kind with at most `most` terms.
+#[tactic(auto, using(crate::proofs::Queries::query_head), unfolding(crate::specs::Refusals::first_of, crate::specs::Frames::wrong_terms, crate::specs::Frames::head_rows, crate::specs::Frames::query_rows, crate::specs::Frames::query_refusal, crate::specs::Frames::query_start))]
 fn check_query(frame: &[u8], kind: Kind, most: usize) -> Result<Query, Refusal>
     ensures refused { refused_under result ≡ query_refusal (byte_of kind) most frame.now }
     ensures parts { IfOk result (λ q. IsQuery frame.now q) }
 {
     check_head(frame, kind)?;
-    if frame.len() < 8 || passes_end(frame, 8, 0) {
+    if frame.len() < 8 || passes_end(Cursors::terms(frame)) {
         return Err(Refusal::WrongFields);
     }
     let n = count_terms(frame);
     if n == 0 || most < n {
         return Err(Refusal::WrongFields);
     }
-    if bad_term(frame, 8, 0) {
+    if bad_term(Cursors::terms(frame)) {
         return Err(Refusal::BadTerm);
     }
     Ok(Query {
