@@ -5,6 +5,7 @@ use mathlib.Core.Bool.{false}
 use mathlib.Core.List.{List}
 use Prim.Native.Nat.{ℕ, ◌+◌, ◌-◌, ◌≤◌, ◌<◌}
 use native.Mathlib.Omega.{arith}
+use Rattle.std.proofs.lemmas.Bool.Decides.{nat_tests}
 use borrow.Author.Tests.{lt-ltb, le-ltb, le-leb, lt-leb}
 use lib.Dec.{ltb}
 use lib.ListN.{length, get_or, take, drop}
@@ -27,24 +28,5 @@ module _ (a : List ℕ) (b : ℕ) (w : List ℕ) where
   unfolding name_of
   own-length at n p q e = rw (p, q, e)
 
-module _ (a : List ℕ) (used e : ℕ) where
-  -- behind an empty slot, and behind an entry of a block that is not used, the length is 0
-  pub behind-empty : e ≡ 0 → length_behind a used e ≡ 0
-  unfolding length_behind
-  behind-empty z = rw (le-ltb 0 e (omega arith))
-
-  pub behind_unused : used < e → length_behind a used e ≡ 0
-  unfolding length_behind
-  behind_unused h = rw (lt-leb e used h, and-false (ltb 0 e))
-
-  -- behind another it is its head's
-  pub behind-used : 0 < e → e ≤ used → length_behind a used e ≡ get_or a (place (e - 1) + 17) 0
-  unfolding length_behind
-  behind-used low high = rw (lt-ltb 0 e low, le-leb e used high)
-
-  -- a length above 0 is that of a used block
-  pub behind-some : (n : ℕ) → 0 < n → n ≡ length_behind a used e → (0 < e) × (e ≤ used)
-  behind-some n h p =
-      by-eq e 0
-      (λ z. absurd (omega (arith, behind-empty z)))
-      (λ ne. by-lt used e (λ g. absurd (omega (arith, behind_unused g))) (λ l. (omega arith, l)))
+-- what a comparison of names takes
+pub ruleset naming = (nat_tests, other_length, own-length)

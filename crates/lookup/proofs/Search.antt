@@ -7,6 +7,7 @@ use Rattle.std.specs.Prelude.{Result, Ok, Err}
 use Prim.Native.Nat.{ℕ, zero, suc, ◌+◌, ◌-◌, ◌%◌, ◌≤◌, ◌<◌}
 use native.Mathlib.Nat.{mod-lt}
 use native.Mathlib.Omega.{arith}
+use Rattle.std.proofs.lemmas.Bool.Decides.{nat_tests}
 use borrow.Author.Tests.{lt-ltb, le-ltb, eq-eqb, ne_eqb}
 use lib.Dec.{ltb, eqb}
 use lib.ListN.{length, get_or, length-set}
@@ -250,3 +251,9 @@ module _ (a : List ℕ) (used : ℕ) (table w : List ℕ) where
       go (Ok (At b)) q p = by-eq (b + 1) (first_entry table (fnv1a w)) (λ i. at b q i (p ∙ hit_here b _ i)) (λ n. absurd (omega (arith, p ∙ hit_other b _ n)))
       go (Ok (Unknown s)) q p = absurd (omega (arith, p ∙ hit_unknown s _))
       go (Err r) q p = absurd (omega (arith, p ∙ hit_refused r _))
+
+-- what the turns of a search take
+pub ruleset searching = (nat_tests, slots_le, from_some, from-none, search-none, search-some, next_plain, next_last)
+
+-- what the entry where a search begins takes
+pub ruleset starting = (slots_le, first-none, first_some)

@@ -17,33 +17,27 @@ pub enum Found {
 }
 
 // How many entries of the table are slots.
+#[tactic(auto, unfolding(crate::specs::Lookup::slots))]
 pub fn slots_of(table: &[u32]) -> u32
     ensures { result ≡ slots table.now }
 {
-    if table.len() < 4294967295 {
-        table.len() as u32
-    } else {
-        4294967295
-    }
+    basics::saturated(table.len())
 }
 
 // Whether block b, read as a head, holds the folded term.
+#[tactic(auto, using(crate::proofs::Names::naming))]
 fn holds_name(arena: &[u8], b: u32, name: &[u8]) -> bool
     requires { (place b + block_size ≤ length arena.now) × (length name.now ≤ max_term) }
     ensures { result ≡ same (name_of arena.now b) name.now }
 {
     let at = blocks::place_of(b);
     let n = name.len();
-    if basics::wide(arena[at + 17]) != n {
-        return false;
-    }
-    let from = at + 18;
-    let to = from + n;
-    basics::same_bytes(&arena[from..to], name)
+    usize::from(arena[at + 17]) == n && basics::same_bytes(&arena[at + 18..at + 18 + n], name)
 }
 
 // The search for a folded term: from the slot of its hash, one slot on and wrapping, to a match or an empty slot. Refused as damaged where a slot leads
 // to no used block, or all slots are filled and none is a match.
+#[tactic(auto, using(crate::proofs::Search::searching))]
 pub fn find(
     arena: &[u8],
     used: u32,
@@ -91,6 +85,7 @@ pub fn find_term(arena: &[u8], used: u32, table: &[u32], term: &[u8]) -> Result<
 }
 
 // The entry of the slot where the search for a hash begins, in a table of t slots.
+#[tactic(auto, using(crate::proofs::Search::starting))]
 fn first_entry(table: &[u32], t: u32, hash: u32) -> u32
     requires { t ≡ slots table.now }
     ensures { result ≡ first_entry table.now hash }
@@ -108,26 +103,21 @@ pub fn first_entries(table: &[u32], hashes: &[u32], count: usize, entries: &mut 
     ensures { Entries table.now hashes.now count entries.new }
 {
     let t = slots_of(table);
-    let mut i: usize = 0;
-    while i < count {
-        entries[i] = first_entry(table, t, hashes[i]);
-        i += 1;
+    for (i, hash) in hashes[..count].iter().enumerate() {
+        entries[i] = first_entry(table, t, *hash);
     }
 }
 
 // The length of the term in the head that an entry leads to.
+#[tactic(auto, using(std::proofs::lemmas::Bool::Decides::nat_tests), unfolding(crate::specs::Lookup::length_behind))]
 fn length_behind(arena: &[u8], used: u32, e: u32) -> u8
     requires { place used ≤ length arena.now }
     ensures { result ≡ length_behind arena.now used e }
 {
-    if e == 0 {
+    if e == 0 || used < e {
         return 0;
     }
-    if used < e {
-        return 0;
-    }
-    let at = blocks::place_of(e - 1);
-    arena[at + 17]
+    arena[blocks::place_of(e - 1) + 17]
 }
 
 // The lengths behind several entries, asked for together in the same way.
@@ -135,14 +125,13 @@ pub fn first_lengths(arena: &[u8], used: u32, entries: &[u32], count: usize, len
     requires { (place used ≤ length arena.now) × (count ≤ length entries.now) × (count ≤ length lengths.old) }
     ensures { Lengths arena.now used entries.now count lengths.new }
 {
-    let mut i: usize = 0;
-    while i < count {
-        lengths[i] = length_behind(arena, used, entries[i]);
-        i += 1;
+    for (i, entry) in entries[..count].iter().enumerate() {
+        lengths[i] = length_behind(arena, used, *entry);
     }
 }
 
 // The search for a folded term whose first entry, and the length behind it, are known.
+#[tactic(auto, using(std::proofs::lemmas::Bool::Decides::nat_tests), unfolding(crate::specs::Lookup::length_behind))]
 pub fn find_from(
     arena: &[u8],
     used: u32,
@@ -156,10 +145,9 @@ pub fn find_from(
     ensures { result ≡ search arena.now used table.now name.now }
 {
     let n = name.len();
-    if basics::wide(stored) == n {
+    if usize::from(stored) == n {
         let from = blocks::place_of(entry - 1) + 18;
-        let to = from + n;
-        if basics::same_bytes(&arena[from..to], name) {
+        if basics::same_bytes(&arena[from..from + n], name) {
             return Ok(Found::At(entry - 1));
         }
     }
@@ -167,6 +155,7 @@ pub fn find_from(
 }
 
 // The first entry of a search that ended with a match there; 0 of any other.
+#[tactic(auto, using(std::proofs::lemmas::Bool::Decides::nat_tests), unfolding(crate::specs::Lookup::first_hit))]
 pub fn first_hit(found: Result<Found, Refusal>, entry: u32) -> u32
     ensures { result ≡ first_hit found entry }
 {
@@ -177,6 +166,7 @@ pub fn first_hit(found: Result<Found, Refusal>, entry: u32) -> u32
 }
 
 // Puts a new term's head into the empty slot met.
+#[tactic(auto, unfolding(crate::specs::Lookup::enter))]
 pub fn enter_at(table: &mut [u32], slot: u32, b: u32)
     requires { (slot < length table.old) × (b < max_word) }
     ensures { table.new ≡ enter table.old slot b }

@@ -1,0 +1,10 @@
+use Rattle.std.proofs.Common.{◌≡◌, ◌-◌, ◌<◌}
+use Rattle.lookup.specs.Lookup.{search, search_from}
+use Rattle.lookup.proofs.find.Given as goal
+
+-- what is left of the search from the slot reached is the whole search
+abbrev pub invariant-loop : goal.invariant-loop
+invariant-loop l = record {
+  inside : l.slot < l.t;
+  ahead : search l.arena l.used l.table l.name ≡ search_from (l.t - l.counter) l.arena l.used l.table l.name l.slot;
+}

@@ -1,0 +1,17 @@
+use Rattle.std.proofs.Common.{sym, ap, ◌∙◌, ◌≡◌, ◌-◌, ◌≤◌, ◌<◌, arith}
+use Rattle.std.proofs.lemmas.Bool.Decides.{nat_tests}
+use Rattle.basics.proofs.Lists.{same_eq}
+use Rattle.blocks.specs.Fields.{name_of}
+use Rattle.lookup.specs.Lookup.{length_behind, first_entry}
+use Rattle.lookup.proofs.Names.{own-length}
+use Rattle.lookup.proofs.Search.{search-first}
+use Rattle.lookup.proofs.find_from.Goals as goal
+
+pub returns-then-same_bytes : goal.returns-then-same_bytes
+unfolding length_behind
+returns-then-same_bytes c =
+    let a = c.args in
+    let low : 0 < a.entry = grind (arith, nat_tests) in
+    let high : a.entry ≤ a.used = grind (arith, nat_tests) in
+    let named : name_of a.arena.now (a.entry - 1) ≡ a.name.now = grind (arith, nat_tests, own-length, same_eq) in
+    sym (search-first _ _ _ _ a.entry (c.requires.4 ∙ ap (first_entry a.table.now) c.requires.3) low high named)
