@@ -7,13 +7,13 @@ use mathlib.Core.List.{List}
 use mathlib.Core.Logic.{◌⊎◌, inl, inr}
 use native.Mathlib.Omega.{arith}
 use lib.Dec.{ltb}
-use lib.ListN.{length, drop}
+use lib.ListN.{length, drop, length-drop}
 use borrow.Author.Tests.{lt-ltb, le-ltb}
 use Rattle.basics.proofs.Cases.{by-lt}
 use Rattle.std.specs.Prelude.{Option, Some, None}
 use Rattle.postings.specs.Coding.{posting, decoded}
 use Rattle.postings.specs.declared.Decoded.{Decoded}
-use Rattle.postings.proofs.Laws.{decoded-within}
+use Rattle.postings.proofs.Laws.{decoded_held, decoded-within}
 use Rattle.sums.specs.declared.Sum.{Sum}
 use Rattle.sums.specs.Adding.{sum_of, further, add_one, add_from, added_to, Bounded}
 
@@ -39,6 +39,18 @@ pub record Adding (part : List ℕ) (stop : ℕ) (p₀ p : Sum) : Type 0 where
   pub k : ℕ
   pub enough : stop ≤ p.at + k
   pub is : add_from (length part) part stop p₀ ≡ add_from k part stop p
+
+-- a posting that is found has a gap of 32 bits, takes a byte or more and lies within the part
+pub record Sized (part : List ℕ) (at : ℕ) (d : Decoded) : Type 0 where
+  pub gap_in : d.gap < 4294967296
+  pub byte : 0 < d.length
+  pub within : at + d.length ≤ length part
+
+pub sized : (part : List ℕ) (at : ℕ) (d : Decoded) → at < length part → decoded (drop at part) ≡ Some d → Sized part at d
+sized part at d h e =
+    let w = decoded-within (drop at part) e in
+    let g = (decoded_held (drop at part) d.gap d.count d.length e).gap in
+    record { gap_in = omega arith; byte = w.0; within = omega (arith, simp length-drop at w.1) }
 
 module _ (part : List ℕ) (stop : ℕ) where
   pub adds-or-ends : (p : Sum) → Adds part stop p ⊎ Ends part stop p
@@ -94,6 +106,12 @@ module _ (part : List ℕ) (stop : ℕ) where
       go : (k : ℕ) → stop ≤ p.at + k → add_from (length part) part stop p₀ ≡ add_from k part stop p → Adding part stop p₀ (further p w.g w.l)
       go zero h e = absurd (omega (arith, w.before_stop))
       go (suc k) h e = record { k = k; enough = omega (arith, adds_byte w); is = e ∙ add-on k w }
+
+  -- the same where the posting is given as it was decoded
+  pub adding_more : {p₀ p : Sum} → Adding part stop p₀ p → p.at < stop → {d : Decoded}
+      → decoded (drop p.at part) ≡ Some d → Adding part stop p₀ (further p d.gap d.length)
+  adding_more v h {d} e =
+      adding_on v (record { g = d.gap; f = d.count; l = d.length; before_stop = h; found = e })
 
   pub adding_ends : {p₀ p : Sum} → Adding part stop p₀ p → Ends part stop p → p ≡ added_to part stop p₀
   unfolding added_to

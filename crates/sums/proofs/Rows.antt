@@ -1,30 +1,31 @@
 -- The three rows: what their bytes add up to one by one is what adding up their postings gives.
 -- Assumes nothing.
-use Prim.Native.Nat.{ℕ, zero, suc, ◌+◌, ◌-◌, ◌/◌, ◌%◌, ◌≤◌, ◌<◌}
+use Prim.Native.Nat.{ℕ, zero, suc, ◌+◌, ◌/◌, ◌%◌, ◌≤◌, ◌<◌}
 use mathlib.Core.Path.{◌≡◌, refl, sym, ap, ap₂, subst, ◌∙◌}
 use mathlib.Core.Bool.{true, false}
 use mathlib.Core.List.{List}
 use native.Mathlib.Omega.{arith}
-use lib.ListN.{length, get_or, set, length-set}
+use native.Mathlib.Nat.{add_assoc}
+use lib.ListN.{length, get_or, drop, drop_of_length-le, drop_of_length-le, set, length-set}
 use lib.Seq.{get_or-set_same, get_or-set_other}
+use Rattle.std.specs.Prelude.{sum}
+use Rattle.std.proofs.lemmas.List.Sums.{sum_by-drop_more}
 use Rattle.basics.proofs.Cases.{by-lt, by-eq}
 use Rattle.postings.proofs.Codes.{at_one, at_pair}
 use Rattle.sums.specs.declared.Sum.{Sum}
 use Rattle.sums.specs.Adding.{add_from, added_to}
-use Rattle.sums.specs.Rows.{is_second, gap_of, mark_of, gap_at, mark_at, sum_from, lane, Lane, total}
+use Rattle.sums.specs.Rows.{is_second, gap_of, mark_of, gap_at, mark_at, sum_from, lane, Lane}
 use Rattle.sums.proofs.Adding.{Adds, at_stop, add-on, add-ends}
 use Rattle.sums.proofs.Bytes.{second_yes, second-behind, second_past, second-not, gap-second, gap-one, gap_pair, Fit, mark_start, mark_second, mark_fits}
 
 -- ---- sums
 
--- up to place n
-pub sum_step : (f : ℕ → ℕ) (i n : ℕ) → i < n → sum_from f i (n - i) ≡ f i + sum_from f (i + 1) (n - (i + 1))
+-- of the elements of a list from place i on
+sum_drop : (n : ℕ) (xs : List ℕ) (i : ℕ) → i + n ≡ length xs → sum (drop i xs) ≡ sum_from (λ j. get_or xs j 0) i n
 unfolding sum_from
-sum_step f i n h = let e : n - i ≡ suc (n - (i + 1)) = omega arith in ap (sum_from f i) e
-
-pub sum-none : (f : ℕ → ℕ) (i n : ℕ) → n ≤ i → sum_from f i (n - i) ≡ 0
-unfolding sum_from
-sum-none f i n h = let e : n - i ≡ 0 = omega arith in ap (sum_from f i) e
+sum_drop zero xs i h = rw (drop_of_length-le xs {i = i} (omega arith))
+sum_drop (suc n) xs i h =
+    sum_by-drop_more (λ x. x) xs i 0 (omega arith) ∙ ap (λ x. get_or xs i 0 + x) (sum_drop n xs (i + 1) (omega arith))
 
 pub sum_same : (f g : ℕ → ℕ) (i n : ℕ) → ((j : ℕ) → i ≤ j → j < i + n → f j ≡ g j) → sum_from f i n ≡ sum_from g i n
 unfolding sum_from
@@ -72,20 +73,26 @@ filled_more f {xs} {i} y w h e = record {
 pub filled_all : (f : ℕ → ℕ) {xs : List ℕ} {i : ℕ} → Filled f xs i → 16 ≤ i → Lane f xs
 filled_all f w h = record { places = w.places; each = λ j k. w.each j (omega arith) }
 
--- the byte at offset i + 2 and those before it, read one by one
-pub gap_at_lem : (s : List ℕ) (i a b : ℕ) → a ≡ i + 1 → b ≡ i + 2 → gap_of (get_or s b 0) (get_or s a 0) (get_or s i 0) ≡ gap_at s i
-unfolding gap_at
-gap_at_lem s i a b p q = rw (p, q)
+-- the lane at place j, read byte by byte
+module _ (s : List ℕ) (j : ℕ) where
+  pub gap_lane : gap_of (get_or s (j + 16) 0) (get_or s (j + 15) 0) (get_or s (j + 14) 0)
+      + gap_of (get_or s (j + 32) 0) (get_or s (j + 31) 0) (get_or s (j + 30) 0)
+      + gap_of (get_or s (j + 48) 0) (get_or s (j + 47) 0) (get_or s (j + 46) 0) ≡ lane (gap_at s) j
+  unfolding lane gap_at
+  gap_lane = simp add_assoc
 
-pub mark_at_lem : (s : List ℕ) (i a b : ℕ) → a ≡ i + 1 → b ≡ i + 2 → mark_of (get_or s b 0) (get_or s a 0) (get_or s i 0) ≡ mark_at s i
-unfolding mark_at
-mark_at_lem s i a b p q = rw (p, q)
+  pub mark_lane : mark_of (get_or s (j + 16) 0) (get_or s (j + 15) 0) (get_or s (j + 14) 0)
+      + mark_of (get_or s (j + 32) 0) (get_or s (j + 31) 0) (get_or s (j + 30) 0)
+      + mark_of (get_or s (j + 48) 0) (get_or s (j + 47) 0) (get_or s (j + 46) 0) ≡ lane (mark_at s) j
+  unfolding lane mark_at
+  mark_lane = simp add_assoc
 
 -- the lanes add up to the rows
-pub lanes_total : (f : ℕ → ℕ) (xs : List ℕ) → Lane f xs → total xs ≡ sum_from f 14 48
-unfolding total lane
+pub lanes_total : (f : ℕ → ℕ) (xs : List ℕ) → Lane f xs → sum xs ≡ sum_from f 14 48
+unfolding lane
 lanes_total f xs w =
-    sum_same (λ i. get_or xs i 0) (λ j. f (j + 14) + f (j + 30) + f (j + 46)) 0 16 (λ j a b. w.each j (omega arith))
+    sum_drop 16 xs 0 (sym w.places)
+    ∙ sum_same (λ i. get_or xs i 0) (λ j. f (j + 14) + f (j + 30) + f (j + 46)) 0 16 (λ j a b. w.each j (omega arith))
     ∙ sum-add (λ j. f (j + 14) + f (j + 30)) (λ j. f (j + 46)) 0 16
     ∙ ap₂ (λ (x y : ℕ). x + y) (sum-add (λ j. f (j + 14)) (λ j. f (j + 30)) 0 16 ∙ ap₂ (λ (x y : ℕ). x + y) (sum_shift f 0 14 16) (sum_shift f 0 30 16)) (sum_shift f 0 46 16)
     ∙ sym (sum_split f 14 32 16 ∙ ap (λ (x : ℕ). x + sum_from f 46 16) (sum_split f 14 16 16))

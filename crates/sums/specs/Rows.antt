@@ -46,9 +46,6 @@ pub record Lane (f : ℕ → ℕ) (xs : List ℕ) : Type 0 where
   pub places : length xs ≡ 16
   pub each : (j : ℕ) → j < 16 → get_or xs j 0 ≡ lane f j
 
-unfoldable pub total : List ℕ → ℕ
-total xs = sum_from (λ i. get_or xs i 0) 0 16
-
 -- what was read of the rows is what adding up from offset 16 on gives
 pub record Rows (part : List ℕ) (r : RowSum) : Type 0 where
   pub few : r.postings < 64

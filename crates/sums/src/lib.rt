@@ -2,9 +2,9 @@
 // have single bytes, and those are added up sixteen at a time.
 #![tactic(auto)]
 
-ghost use Rattle.std.specs.Prelude.{◌≡◌, IfSome, ◌+◌, ◌≤◌, ◌<◌, length};
+ghost use Rattle.std.specs.Prelude.{◌≡◌, IfSome, sum, ◌+◌, ◌≤◌, ◌<◌, length};
 ghost use Rattle.sums.specs.Adding.{sum_of, added_to, Small};
-ghost use Rattle.sums.specs.Rows.{gap_of, mark_of, gap_at, mark_at, lane, Lane, total, Rows};
+ghost use Rattle.sums.specs.Rows.{gap_of, mark_of, gap_at, mark_at, lane, Lane, Rows};
 
 // The offset behind the last posting, the number that the gaps lead to, whatever reports there are, and how many postings they are.
 #[derive(Clone, Copy)]
@@ -19,27 +19,22 @@ fn add_up(part: &[u8], from: Sum, stop: usize) -> Sum
     requires { (stop ≤ length part.now) × (length part.now ≤ 64) × Small from }
     ensures { (result ≡ added_to part.now stop from) × Small result }
 {
-    let mut p = from.at;
-    let mut n = from.number;
-    let mut postings = from.postings;
-    while p < stop {
-        let Some(d) = postings::decode_at(part, p) else {
+    let mut sum = from;
+    while sum.at < stop {
+        let Some(d) = postings::decode_at(part, sum.at) else {
             break;
         };
-        n += u64::from(d.gap);
-        p += d.length;
-        postings += 1;
+        sum.number += u64::from(d.gap);
+        sum.at += d.length;
+        sum.postings += 1;
     }
-    Sum {
-        at: p,
-        number: n,
-        postings,
-    }
+    sum
 }
 
 // ---- single bytes, sixteen at a time
 
 // What byte b behind p and q adds to the gaps: nothing where it is the second byte of a code.
+#[tactic(auto, unfolding(crate::specs::Rows::gap_of, crate::specs::Rows::is_second))]
 fn gap_of(b: u8, q: u8, p: u8) -> u8
     ensures { result ≡ gap_of b q p }
 {
@@ -52,6 +47,7 @@ fn gap_of(b: u8, q: u8, p: u8) -> u8
 }
 
 // What it adds to the number of postings: 1 where it starts a code, and 64, more than a part has, where it does not fit.
+#[tactic(auto, unfolding(crate::specs::Rows::mark_of, crate::specs::Rows::is_fit, crate::specs::Rows::is_second))]
 fn mark_of(b: u8, q: u8, p: u8) -> u8
     ensures { result ≡ mark_of b q p }
 {
@@ -80,6 +76,7 @@ pub struct Lanes {
 }
 
 // A turn is the same for all places and takes nothing over from the turn before: so the compiler makes one of all sixteen.
+#[tactic(auto, using(crate::proofs::Bytes::gap_le, crate::proofs::Bytes::mark_le))]
 fn lanes_of(part: &[u8]) -> Lanes
     requires { length part.now ≡ 64 }
     ensures { Lane (gap_at part.now) result.gaps × Lane (mark_at part.now) result.marks }
@@ -104,7 +101,7 @@ fn lanes_of(part: &[u8]) -> Lanes
 
 fn total_of(lanes: &[u8]) -> u32
     requires { length lanes.now ≡ 16 }
-    ensures { result ≡ total lanes.now }
+    ensures { result ≡ sum lanes.now }
 {
     lanes.iter().map(|n| u32::from(*n)).sum()
 }

@@ -1,0 +1,16 @@
+-- What is added up in two parts is what is added up in one, the second part being the rows or not.
+use Rattle.std.proofs.Common.{length, arith}
+use Rattle.sums.specs.Adding.{sum_of}
+use Rattle.sums.proofs.Adding.{added_in_two}
+use Rattle.sums.proofs.add_all.Goals as goal
+
+pub returns-in-Some : goal.returns-in-Some
+returns-in-Some c =
+    let two = added_in_two c.args.part.now c.min.result (length c.args.part.now) (omega arith) (omega arith) (sum_of c.args.at c.args.number) in
+    let adds = c.in-Some.ensures.adds c.add_up-front.result.number c.add_up-front.result.postings in
+    grind arith
+
+pub returns : goal.returns
+returns c =
+    let two = added_in_two c.args.part.now c.min.result (length c.args.part.now) (omega arith) (omega arith) (sum_of c.args.at c.args.number) in
+    cc (c.add_up.ensures.0, c.add_up-front.ensures.0)
