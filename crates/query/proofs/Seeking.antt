@@ -5,7 +5,7 @@ use mathlib.Core.Path.{◌≡◌, refl, sym, ap, ◌∙◌}
 use mathlib.Core.Bool.{Bool, true, false, ◌||◌}
 use mathlib.Core.List.{List, [], ◌∷◌}
 use native.Mathlib.Omega.{arith}
-use Rattle.std.specs.Prelude.{Some, None, Ok, Err}
+use Rattle.std.specs.Prelude.{Option, Some, None, Ok, Err}
 use Rattle.refusals.specs.declared.Refusal.{Refusal}
 use lib.Dec.{eqb}
 use lib.ListN.{length, get_or, set, length-set}
@@ -16,6 +16,7 @@ use Rattle.basics.specs.Lists.{any}
 use Rattle.blocks.specs.Fields.{head_of, capacity, part_of}
 use Rattle.blocks.specs.Prescribed.{Posting}
 use Rattle.chains.specs.declared.Cursor.{Cursor}
+use Rattle.chains.specs.declared.Step.{Step}
 use Rattle.chains.specs.Chains.{Stepped, stepped, at_end, damaged, follow, part_end, whole, exhausted, read_at, next_block, step_at, at_head, chain_of}
 use Rattle.postings.specs.Coding.{posting, decoded}
 use Rattle.sums.specs.Adding.{Bounded}
@@ -55,6 +56,10 @@ unfolding follow
 never_refused a used reports c ps w r e =
     let d : rest a used reports c ≡ damaged = run_step a used reports (reports - c.number) c ∙ rw e in
     cc
+
+-- a step that was taken to a posting
+pub gave : {r x : Stepped} {o : Option Step} {s : Step} → r ≡ x → r ≡ Ok o → o ≡ Some s → x ≡ stepped s.number s.count s.next
+gave e p q = sym e ∙ p ∙ ap Ok q
 
 module _ (a : List ℕ) (k : Counters) where
   -- where the rest is known, the reports ahead are
