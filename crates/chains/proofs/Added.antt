@@ -7,6 +7,7 @@ use mathlib.Core.Logic.{◌⊎◌, inl, inr}
 use native.Mathlib.Omega.{arith}
 use lib.ListN.{length}
 use Rattle.postings.proofs.Laws.{decoded_held}
+use Rattle.postings.specs.declared.Decoded.{Decoded}
 use Rattle.sums.specs.declared.Sum.{Sum}
 use Rattle.sums.specs.Adding.{sum_of, further, add_from, added_to}
 use Rattle.sums.proofs.Adding as sums
@@ -28,11 +29,9 @@ module _ (part : List ℕ) (reports : ℕ) where
   stopped (sums.at_stop h) = at_end h
   stopped (sums.no_posting e) = no_posting e
 
-  goes : {p : Sum} (w : sums.Adds part (length part) p) → p.number + w.g ≤ reports → Goes part reports reports (as_passed p)
+  goes : {p : Sum} (w : sums.Adds part (length part) p) → p.number + w.g ≤ reports
+      → Goes part reports reports (as_passed p) (record { gap = w.g; count = w.f; length = w.l })
   goes {p} w h = record {
-    g = w.g;
-    f = w.f;
-    l = w.l;
     before_end = w.before_stop;
     below = omega (arith, (decoded_held _ _ _ _ w.found).gap.0);
     found = w.found;

@@ -249,10 +249,10 @@ module _ {a : List ℕ} {reports : ℕ} {c : Cursor} (w : InPart a reports c) (t
   abbrev Stands : Passed → Type 0
   Stands p = Within a reports to c p.postings (moved_to c p.at p.number)
 
-  stands_on : (p : Passed) (v : Goes part reports to p) → Stands p → Stands (behind p v.g v.l)
-  stands_on p v s =
+  stands_on : (p : Passed) (d : Decoded) → Goes part reports to p d → Stands p → Stands (behind p d.gap d.length)
+  stands_on p d v s =
       let h : p.at < e = omega (arith, v.before_end, all) in
-      let f : decoded (part_of a c.block p.at e) ≡ posting v.g v.f v.l = sym (ap decoded (part_drop a c.block e p.at)) ∙ v.found in
+      let f : decoded (part_of a c.block p.at e) ≡ Some d = sym (ap decoded (part_drop a c.block e p.at)) ∙ v.found in
       rw add-one (on s v.below (part_more w p.at p.number h f) (part_posting w p.at p.number h f v.in_reports_lem))
 
   -- what is passed are steps of the cursor
@@ -282,4 +282,4 @@ module _ {a : List ℕ} {reports : ℕ} {c : Cursor} (w : InPart a reports c) (t
       go (at_end k) = absurd (omega (arith, not-exhausted a (moved_to c p.at p.number) h, all))
       go (arrived k) = full k (decoded (drop p.at part)) refl
       go (no_posting q) = found None q ∙ given-none reports (moved_to c p.at p.number) p.number
-      go (over {g} {f} {l} q k) = found (posting g f l) q ∙ given-over reports (moved_to c p.at p.number) p.number g f l k
+      go (over {d} q k) = found (Some d) q ∙ given-over reports (moved_to c p.at p.number) p.number d.gap d.count d.length k

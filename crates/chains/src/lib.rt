@@ -4,7 +4,7 @@
 ghost use Rattle.std.specs.Prelude.{◌≡◌, cond, false, ◌||◌, ℕ, ◌+◌, ◌≤◌, ◌<◌, ltb, leb, eqb, length, get_or};
 ghost use Rattle.sums.specs.Adding.{Bounded};
 ghost use Rattle.blocks.specs.Fields.{max_word, block_size, place, link_of, part_of};
-ghost use Rattle.chains.specs.Chains.{part_end, exhausted, read_at, next_block, step_at, step_from, at_head, bad_head, chain_of, is_whole, Follows};
+ghost use Rattle.chains.specs.Chains.{part_end, exhausted, read_at, entered, next_block, step_at, step_from, at_head, bad_head, chain_of, is_whole, Follows};
 ghost use Rattle.chains.specs.Parts.{passed, moved_to, passed_to, InPart, Known, part_read};
 
 use blocks::Head;
@@ -31,31 +31,20 @@ pub struct Step {
     pub next: Cursor,
 }
 
-// Whether the postings of block b, which is no tail, end at offset `at`: at the block's end or a null byte.
-fn ends_at(arena: &[u8], b: u32, at: usize) -> bool
-    requires { place b + 64 ≤ length arena.now }
-    ensures { result ≡ leb block_size at || eqb (get_or arena.now (place b + at) 0) 0 }
-{
-    if 64 <= at {
-        return true;
-    }
-    let from = blocks::place_of(b);
-    arena[from + at] == 0
-}
-
-// Whether the part of the cursor's block is read to its end.
+// Whether the part of the cursor's block is read to its end: to the write offset in the tail, elsewhere to the block's end or a null byte.
+#[tactic(auto, unfolding(crate::specs::Chains::exhausted))]
 fn is_exhausted(arena: &[u8], c: Cursor) -> bool
     requires { place c.block + 64 ≤ length arena.now }
     ensures { result ≡ exhausted arena.now c }
 {
-    let at = c.at;
     if c.block == c.tail {
-        return c.end <= at;
+        return c.end <= c.at;
     }
-    ends_at(arena, c.block, at)
+    64 <= c.at || arena[blocks::place_of(c.block) + c.at] == 0
 }
 
 // Where the part of the cursor's block ends.
+#[tactic(auto, unfolding(crate::specs::Chains::part_end))]
 pub fn part_end(c: Cursor) -> usize
     ensures { result ≡ part_end c c.block }
 {
@@ -63,6 +52,7 @@ pub fn part_end(c: Cursor) -> usize
 }
 
 // The posting at the cursor, its gap counted from `base`.
+#[tactic(auto, using(crate::proofs::Steps::part_end_le, crate::proofs::Steps::part_is), unfolding(crate::specs::Chains::read_at, crate::specs::Chains::given))]
 fn read_at(arena: &[u8], reports: u32, c: Cursor, base: u32) -> Result<Option<Step>, Refusal>
     requires { (place c.block + 64 ≤ length arena.now) × (c.end ≤ 64) × (c.at ≤ part_end c c.block) }
     ensures { result ≡ read_at arena.now reports c base }
@@ -92,7 +82,23 @@ fn read_at(arena: &[u8], reports: u32, c: Cursor, base: u32) -> Result<Option<St
     }))
 }
 
+// The start of block b, behind the one at the cursor.
+#[tactic(auto, unfolding(crate::specs::Chains::entered))]
+fn entered(c: Cursor, b: u32) -> Cursor
+    requires { 0 < c.left }
+    ensures { result ≡ entered c b }
+{
+    Cursor {
+        block: b,
+        at: 4,
+        first: 0,
+        left: c.left - 1,
+        ..c
+    }
+}
+
 // The first posting of the next block.
+#[tactic(auto, unfolding(crate::specs::Chains::next_block))]
 pub fn next_block(arena: &[u8], used: u32, reports: u32, c: Cursor) -> Result<Option<Step>, Refusal>
     requires { Follows arena.now used c × (4 ≤ c.end) }
     ensures { result ≡ next_block arena.now used reports c }
@@ -104,17 +110,11 @@ pub fn next_block(arena: &[u8], used: u32, reports: u32, c: Cursor) -> Result<Op
     if used <= b {
         return Err(Refusal::Damaged);
     }
-    let entered = Cursor {
-        block: b,
-        at: 4,
-        first: 0,
-        left: c.left - 1,
-        ..c
-    };
-    read_at(arena, reports, entered, c.first)
+    read_at(arena, reports, entered(c, b), c.first)
 }
 
 // One posting after another: the one at the cursor with the cursor past it; none at the chain's end.
+#[tactic(auto, unfolding(crate::specs::Chains::step_at))]
 pub fn advance(arena: &[u8], used: u32, reports: u32, c: Cursor) -> Result<Option<Step>, Refusal>
     requires { Follows arena.now used c × (4 ≤ c.end) }
     ensures { result ≡ step_at arena.now used reports c }
@@ -222,6 +222,7 @@ pub struct ChainReader<'a> {
 }
 
 // A step from any place: damage where it lies in no used block, or its write offset in no block.
+#[tactic(auto, unfolding(crate::specs::Chains::step_from, crate::specs::Chains::is_place))]
 pub fn step_from(
     arena: &[u8],
     used: u32,
@@ -274,20 +275,16 @@ pub struct PartRead {
 }
 
 // A tail that is not used, or a write offset out of place.
+#[tactic(auto, unfolding(crate::specs::Chains::bad_head))]
 pub fn is_bad_head(d: Head, used: u32, h: u32) -> bool
     requires { d.length < 256 }
     ensures { result ≡ bad_head d used h }
 {
-    if used <= d.tail {
-        return true;
-    }
-    if d.end <= blocks::part_start(d, h, d.tail) {
-        return true;
-    }
-    64 < d.end
+    used <= d.tail || d.end <= blocks::part_start(d, h, d.tail) || 64 < d.end
 }
 
 // The cursor before the first posting of head h.
+#[tactic(auto, unfolding(crate::specs::Chains::at_head))]
 pub fn at_head(d: Head, used: u32, h: u32) -> Cursor
     requires { (h < used) × (d.length < 256) }
     ensures { result ≡ at_head d used h }
@@ -303,38 +300,24 @@ pub fn at_head(d: Head, used: u32, h: u32) -> Cursor
     }
 }
 
-// Where the postings of block b end in the chain of a head.
-fn end_in(d: Head, b: u32) -> usize
-    ensures { result ≡ cond (eqb b d.tail) d.end block_size }
+// Reads the part of the cursor's block from the cursor on: its first posting, whose gap counts from `base`, and those behind it. None where no
+// sound posting stands there.
+fn read_part(arena: &[u8], reports: u32, c: Cursor, base: u32) -> Option<PartRead>
+    requires { (place c.block + 64 ≤ length arena.now) × (c.end ≤ block_size) × (base ≤ reports) }
+    ensures { result ≡ part_read (part_of arena.now c.block 0 (part_end c c.block)) reports c.at base }
 {
-    if b == d.tail { d.end } else { 64 }
-}
-
-// Reads a block's part up to offset `end`: its first posting, whose gap counts from `base`, and those behind it. None where no sound posting stands
-// there.
-fn read_part(
-    arena: &[u8],
-    reports: u32,
-    b: u32,
-    at: usize,
-    end: usize,
-    base: u32,
-) -> Option<PartRead>
-    requires { (place b + end ≤ length arena.now) × (base ≤ reports) × (end ≤ block_size) }
-    ensures { result ≡ part_read (part_of arena.now b 0 end) reports at base }
-{
-    let start = blocks::place_of(b);
-    let to = start + end;
-    let part = &arena[start..to];
-    if part.len() <= at {
+    let start = blocks::place_of(c.block);
+    let end = start + part_end(c);
+    let part = &arena[start..end];
+    if part.len() <= c.at {
         return None;
     }
-    let d = postings::decode_at(part, at)?;
+    let d = postings::decode_at(part, c.at)?;
     if reports - base < d.gap {
         return None;
     }
     let first = base + d.gap;
-    let rest = pass_all(part, reports, at + d.length, first);
+    let rest = pass_all(part, reports, c.at + d.length, first);
     Some(PartRead { first, rest })
 }
 
@@ -349,9 +332,8 @@ fn link_ahead(arena: &[u8], used: u32, b: u32) -> u32
     0
 }
 
-// Reads the chain of head h whole: whether it is sound. Each turn reads a block on plain numbers; `base` is the first number of the block before, 0
-// at the head, and `last` the last number read. The next block's link is asked for before this one is read: its load misses the caches, and so it
-// overlaps with the reading.
+// Reads the chain of head h whole: whether it is sound. Each turn reads a block; `base` is the first number of the block before, 0 at the head. The
+// next block's link is asked for before this one is read: its load misses the caches, and so it overlaps with the reading.
 pub fn is_sound(arena: &[u8], used: u32, reports: u32, h: u32) -> bool
     requires { (place used ≤ length arena.now) × (h < used) }
     ensures { result ≡ is_whole (chain_of arena.now used reports h) }
@@ -360,43 +342,34 @@ pub fn is_sound(arena: &[u8], used: u32, reports: u32, h: u32) -> bool
     if is_bad_head(d, used, h) {
         return false;
     }
-    let mut b = h;
+    let mut c = at_head(d, used, h);
     let mut next = blocks::link_of(arena, h);
-    let mut at = 18 + d.length;
     let mut base: u32 = 0;
-    let mut last: u32 = 0;
     let mut n: u32 = 0;
-    let mut left = used - 1;
     loop {
         let after = link_ahead(arena, used, next);
-        let Some(r) = read_part(arena, reports, b, at, end_in(d, b), base) else {
+        let Some(r) = read_part(arena, reports, c, base) else {
             return false;
         };
-        if r.first <= last {
+        if r.first <= c.number {
             return false;
         }
-        let p = r.rest;
-        n += 1 + p.postings;
-        last = p.number;
-        if b == d.tail {
-            if p.at < d.end {
-                return false;
-            }
-            return n == d.postings && last == d.last;
-        }
-        if left == 0 {
+        n += 1 + r.rest.postings;
+        c = Cursor {
+            first: r.first,
+            ..moved(c, r.rest.at, r.rest.number)
+        };
+        if !is_exhausted(arena, c) {
             return false;
         }
-        if !ends_at(arena, b, p.at) {
+        if c.block == c.tail {
+            return n == d.postings && c.number == d.last;
+        }
+        if c.left == 0 || used <= next {
             return false;
         }
-        b = next;
-        if used <= b {
-            return false;
-        }
+        c = entered(c, next);
         next = after;
-        at = 4;
         base = r.first;
-        left -= 1;
     }
 }
