@@ -9,8 +9,10 @@ use native.Mathlib.Omega.{arith}
 use lib.Dec.{eqb}
 use lib.ListN.{length, get_or, set, take, drop, length-set, length-take, length-append, length-map, take-append-drop}
 use lib.Seq.{take-take, take-suc-set, length-take-le}
+use Rattle.std.proofs.lemmas.List.{take_at}
 use Rattle.basics.proofs.Parts.{drop-take, rest_here, rest_in, rest-next}
 use Rattle.basics.specs.Lists.{any}
+use Rattle.basics.proofs.Cases.{by-lt}
 use Rattle.terms.specs.Terms.{folded, fnv1a, is_term}
 use Rattle.terms.proofs.Laws.{length-folded, folded-take, folded-drop}
 use Rattle.frames.specs.Frames.{max_body, count_bytes, first_line, term_at, count_at, past_field, Field, fields, lines, passes_end, bad_term, zero_count, folded_at}
@@ -57,10 +59,33 @@ module _ (f : List ℕ) (at : ℕ) where
     pub hash-on : Hashed f (past_field count_bytes f at) (n + 1) hashes
     hash-on = record { rest = p.rest; is = rest-next hashes n line_first }
 
+-- the same where there are no others than those of the lines from here on
+module _ (f : List ℕ) (at : ℕ) {hashes : List ℕ} (e : hashes ≡ hashes_of f (fields count_bytes f at)) where
+  pub hashes-some : 0 < length hashes → at < length f
+  hashes-some h = by-lt at (length f) (λ l. l) (λ l. let n : length hashes ≡ 0 = ap length (e ∙ hashes_end f at l) in absurd (omega arith))
+
+  pub hashes-none : length hashes ≡ 0 → length f ≤ at
+  hashes-none h = by-lt at (length f) (λ l. let n = ap length (e ∙ hashes_more f at l) in absurd (omega (arith, n))) (λ l. l)
+
+  module _ (x : ℕ) (rest : List ℕ) (q : hashes ≡ x ∷ rest) (h : at < length f) where
+    both : x ∷ rest ≡ fnv1a (folded_at f at) ∷ hashes_of f (fields count_bytes f (past_field count_bytes f at))
+    both = sym q ∙ e ∙ hashes_more f at h
+
+    pub first-hash : x ≡ fnv1a (folded_at f at)
+    first-hash = cc both
+
+    pub other-hashes : rest ≡ hashes_of f (fields count_bytes f (past_field count_bytes f at))
+    other-hashes = cc both
+
 -- there is a hash for each line from an offset on
 pub hashes_enough : (f : List ℕ) (at : ℕ) {hashes : List ℕ} → Hashed f at 0 hashes → length (fields count_bytes f at) ≤ length hashes
 unfolding hashes_of
 hashes_enough f at p = omega (arith, simp (length-append, length-map) at (ap length p.is))
+
+-- those of all lines are the first of them
+pub all-hashes : (f : List ℕ) {hashes : List ℕ} (n : ℕ) → Hashed f first_line 0 hashes → n ≡ length (lines f) → take n hashes ≡ hashes_of f (lines f)
+unfolding hashes_of
+all-hashes f n p e = rw p.is (take_at _ _ n (length-map (lines f) (λ at. fnv1a (folded_at f at)) ∙ sym e))
 
 -- ---- from line to line
 

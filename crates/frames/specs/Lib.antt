@@ -4,3 +4,4 @@ pub mod Repeats
 pub mod Read
 pub mod Answers
 pub mod Walk
+pub mod Lines

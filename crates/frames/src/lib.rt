@@ -29,10 +29,13 @@ ghost use Rattle.std.specs.Iterator.{at_most};
 ghost use Rattle.frames.specs.Walk.{Goes, from_first};
 ghost use Rattle.frames.specs.Answers.{byte_of, IsKind, IsQuery};
 ghost use Rattle.frames.specs.Repeats.{chain, Chained};
-ghost use Rattle.frames.specs.Read.{Folds, max_lines, Hashed, Read};
+ghost use Rattle.frames.specs.Read.{Folds, max_lines, hashes_of, Hashed, Read};
 ghost use Rattle.refusals.specs.Numbers.{refused_under};
 
+mod report;
+
 use refusals::Refusal;
+pub use report::{Line, Lines, LinesLeft};
 
 // An offset of a frame at which a field starts, or the frame's end.
 #[derive(Clone, Copy)]
@@ -269,7 +272,7 @@ fn in_chain(frame: &[u8], names: &[u8], earlier: &[u16; 820], last: u16, c: Curs
 
 // Refusal 7: whether two lines have one folded term. Lines are chained by the last byte of their hash, so that each is compared with few others.
 fn repeated_term(frame: &[u8], names: &[u8], hashes: &[u32]) -> bool
-    requires { (length frame.now ≤ max_body + 3) × (passes_end count_bytes frame.now first_line ≡ false) × Read frame.now names.now hashes.now }
+    requires { (length frame.now ≤ max_body + 3) × (passes_end count_bytes frame.now first_line ≡ false) × Folds frame.now names.now × (hashes.now ≡ hashes_of frame.now (lines frame.now)) }
     ensures { result ≡ repeated_term frame.now (lines frame.now) }
 {
     let mut last = [0u16; 256];
@@ -299,7 +302,7 @@ pub fn read_report(frame: &[u8], names: &mut [u8], hashes: &mut [u32]) -> Result
     check_head(frame, Kind::Report)?;
     terms::fold(frame, names);
     let count = read_lines(frame, names, hashes)?;
-    if repeated_term(frame, names, hashes) {
+    if repeated_term(frame, names, &hashes[..count]) {
         return Err(Refusal::RepeatedTerm);
     }
     Ok(count)

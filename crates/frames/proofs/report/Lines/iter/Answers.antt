@@ -1,0 +1,8 @@
+use Rattle.frames.proofs.Laws.{Sound, sound-lines}
+use Rattle.frames.proofs.report.Lines.iter.Goals as goal
+
+pub invariant_of-result : goal.invariant_of-result
+invariant_of-result c =
+    let s = c.args.self in
+    let l = sound-lines s.frame.now s.sound in
+    record { folded = s.folded; whole = l.whole; good = l.good; hashed = s.hashed }

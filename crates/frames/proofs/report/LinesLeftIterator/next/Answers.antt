@@ -1,0 +1,61 @@
+use Rattle.std.proofs.Common.{ℕ, ◌≡◌, ◌<◌, ◌+◌, List, ◌∷◌, length, sym, refl, arith, rules}
+use Rattle.frames.specs.declared.report.LinesLeft.{LinesLeft}
+use Rattle.frames.specs.Frames.{count_bytes}
+use Rattle.frames.proofs.Fields.{field_here, field_term, whole-on}
+use Rattle.frames.proofs.Conditions.{good_on}
+use Rattle.frames.proofs.Read.{hashes-some, hashes-none, first-hash, other-hashes}
+use Rattle.frames.proofs.Laws.{Sound, sound_field, sound-name, sound-some}
+use Rattle.frames.proofs.report.LinesLeftIterator.next.Goals as goal
+
+sound_left : (s : LinesLeft) → Sound count_bytes s.frame.now s.at
+sound_left s = record { whole = s.whole; good = s.good }
+
+starts : (s : LinesLeft) → 0 < length s.hashes.now → s.at < length s.frame.now
+starts s h = hashes-some s.frame.now s.at s.hashed h
+
+pub returns-in_err-hash-clause-steps : goal.returns-in_err-hash-clause-steps
+returns-in_err-hash-clause-steps c =
+    let s = c.args.self.now in
+    rw c.from_residual.ensures (hashes-none s.frame.now s.at s.hashed c.in_err-hash.ensures.cases, refl)
+
+pub past-requires : goal.past-requires
+past-requires c = (starts c.args.self.now (omega (arith, c.in_ok-hash.ensures.cases.1)), omega arith)
+
+pub name-requires : goal.name-requires
+name-requires c =
+    let s = c.args.self.now in
+    (field_term count_bytes s.frame.now s.at (sound_field (sound_left s) (starts s (omega (arith, c.in_ok-hash.ensures.cases.1)))), s.folded)
+
+pub count-requires : goal.count-requires
+count-requires c =
+    let s = c.args.self.now in sound_field (sound_left s) (starts s (omega (arith, c.in_ok-hash.ensures.cases.1)))
+
+pub invariant_of-self : goal.invariant_of-self
+invariant_of-self c =
+    let s = c.args.self.now in
+    let h = starts s (omega (arith, c.in_ok-hash.ensures.cases.1)) in
+    rw c.past.ensures
+    (record {
+      folded = s.folded;
+      whole = whole-on count_bytes s.frame.now s.at s.whole h;
+      good = good_on count_bytes s.frame.now s.at h s.good;
+      hashed = other-hashes s.frame.now s.at s.hashed _ _ c.in_ok-hash.ensures.cases.0 h;
+    })
+
+pub returns-clause-steps : goal.returns-clause-steps
+returns-clause-steps c =
+    let s = c.args.self.now in
+    let h = starts s (omega (arith, c.in_ok-hash.ensures.cases.1)) in
+    record {
+      here = record {
+        starts = h;
+        name = c.name.ensures;
+        hash = first-hash s.frame.now s.at s.hashed _ _ c.in_ok-hash.ensures.cases.0 h;
+        count = c.count.ensures;
+        some = rw c.name.ensures (sound-some (sound_left s) h);
+        short = rw c.name.ensures (sound-name (sound_left s) h);
+      };
+      past = c.past.ensures;
+      fewer = sym c.in_ok-hash.ensures.cases.1;
+      frame = refl;
+    }
