@@ -22,13 +22,13 @@ use Rattle.frames.proofs.Fields.{past_five, fields_end, fields_more, passes_end_
 -- ---- the bytes folded
 
 module _ (f names : List ℕ) (e : Folds f names) where
-  pub folds-room : length f ≤ length names
-  folds-room = omega (arith, simp (length-take, length-folded) at (ap length e))
+  pub folds_room : length f ≤ length names
+  folds_room = omega (arith, simp (length-take, length-folded) at (ap length e))
 
   -- a folded term stands where the term does
-  pub name-at : (at : ℕ) → Field 0 f at → take (get_or f at 0) (drop (at + 1) names) ≡ folded_at f at
+  pub name_at : (at : ℕ) → Field 0 f at → take (get_or f at 0) (drop (at + 1) names) ≡ folded_at f at
   unfolding term_at past_field
-  name-at at h =
+  name_at at h =
       let n = get_or f at 0 in
       let m = length f - (at + 1) in
       let z : drop (at + 1) (folded f) ≡ take m (drop (at + 1) names) = ap (drop (at + 1)) (sym e) ∙ drop-take (at + 1) (length f) names in

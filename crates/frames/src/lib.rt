@@ -1,7 +1,7 @@
 // Reading a frame (document 01, "Frames"): refusals 1 to 7, and a cursor that hands out one line or term after another.
 #![tactic(auto)]
 
-ghost use Rattle.std.specs.Prelude.{◌≡◌, IfOk, OnOk, true, false, ◌+◌, ◌-◌, ◌≤◌, ◌<◌, length};
+ghost use Rattle.std.specs.Prelude.{◌≡◌, IfOk, OnOk, true, false, ◌+◌, ◌-◌, ◌≤◌, ◌<◌, length, get_or};
 ghost use Rattle.basics.specs.Lists.{any, same};
 ghost use Rattle.frames.specs.Refusals.{first_of};
 ghost use Rattle.frames.specs.Frames.{
@@ -36,6 +36,13 @@ mod report;
 
 use refusals::Refusal;
 pub use report::{Line, Lines, LinesLeft};
+use std::ops::Range;
+
+// The longest body of a frame.
+const MAX_BODY: usize = 4096;
+
+// More than a frame has lines: each has 5 bytes or more, and 4,095 follow the kind.
+pub const MAX_LINES: usize = 820;
 
 // An offset of a frame at which a field starts, or the frame's end.
 #[derive(Clone, Copy)]
@@ -78,45 +85,50 @@ pub struct Query {
 }
 
 impl Cursor {
+    // Where the bytes of the field's term stand.
+    fn term_range(self, frame: &[u8]) -> Range<usize>
+        requires { self.at < length frame.now }
+        ensures { (result.start ≡ self.at + 1) × (result.end ≡ self.at + 1 + get_or frame.now self.at 0) }
+    {
+        let start = self.at + 1;
+        start..start + usize::from(frame[self.at])
+    }
+
     // The term of the field here: that part of the frame itself.
+    #[tactic(auto, unfolding(crate::specs::Frames::past_field, crate::specs::Frames::term_at))]
     pub fn term<'a>(self, frame: &'a [u8]) -> &'a [u8]
         requires { Field 0 frame.now self.at }
         ensures { result.now ≡ term_at frame.now self.at }
     {
-        let at = self.at;
-        let from = at + 1;
-        let to = from + basics::wide(frame[at]);
-        &frame[from..to]
+        &frame[self.term_range(frame)]
     }
 
     // The same folded, out of the frame's folded bytes.
+    #[tactic(auto, using(crate::proofs::Read::folds_room, crate::proofs::Read::name_at), unfolding(crate::specs::Frames::past_field))]
     pub fn name<'a>(self, frame: &[u8], names: &'a [u8]) -> &'a [u8]
         requires { Field 0 frame.now self.at × Folds frame.now names.now }
         ensures { result.now ≡ folded_at frame.now self.at }
     {
-        let at = self.at;
-        let from = at + 1;
-        let to = from + basics::wide(frame[at]);
-        &names[from..to]
+        &names[self.term_range(frame)]
     }
 
     // The count of the line here.
+    #[tactic(auto, unfolding(crate::specs::Frames::past_field, crate::specs::Frames::count_at))]
     pub fn count(self, frame: &[u8]) -> u32
         requires { Field count_bytes frame.now self.at }
         ensures { result ≡ count_at frame.now self.at }
     {
-        let at = self.at;
-        basics::read_word(frame, at + 1 + basics::wide(frame[at]))
+        basics::read_word(frame, self.term_range(frame).end)
     }
 
     // The cursor past the field here, which has `tail` bytes behind its term.
+    #[tactic(auto, unfolding(crate::specs::Frames::past_field))]
     pub fn past(self, frame: &[u8], tail: usize) -> Self
         requires { (self.at < length frame.now) × (tail ≤ count_bytes) }
         ensures { result.at ≡ past_field tail frame.now self.at }
     {
-        let at = self.at;
         Cursor {
-            at: past_field(frame, at, tail),
+            at: self.term_range(frame).end + tail,
         }
     }
 }
@@ -171,14 +183,6 @@ impl<'a> Iterator for Cursors<'a> {
     }
 }
 
-// The offset past the field at `at`, which has `tail` bytes behind its term.
-fn past_field(frame: &[u8], at: usize, tail: usize) -> usize
-    requires { (at < length frame.now) × (tail ≤ count_bytes) }
-    ensures { result ≡ past_field tail frame.now at }
-{
-    at + 1 + basics::wide(frame[at]) + tail
-}
-
 // ---- the conditions
 
 // Refusals 1 to 3, the same for every call.
@@ -190,7 +194,7 @@ fn check_head(frame: &[u8], kind: Kind) -> Result<(), Refusal>
         return Err(Refusal::WrongVersion);
     }
     let body = usize::from(frame[1]) * 256 + usize::from(frame[2]);
-    if 4096 < body || body != frame.len() - 3 {
+    if MAX_BODY < body || body != frame.len() - 3 {
         return Err(Refusal::WrongLength);
     }
     if Kind::try_from(frame[3]) != Ok(kind) {
@@ -255,17 +259,17 @@ fn read_lines(frame: &[u8], names: &[u8], hashes: &mut [u32]) -> Result<usize, R
 }
 
 // Whether a line of the chain from `last` on has the folded term of the line at c.
-fn in_chain(frame: &[u8], names: &[u8], earlier: &[u16; 820], last: u16, c: Cursor) -> bool
+fn in_chain(frame: &[u8], names: &[u8], earlier: &[u16; MAX_LINES], last: u16, c: Cursor) -> bool
     requires { Folds frame.now names.now × Chained frame.now earlier.now last × Field count_bytes frame.now c.at }
     ensures { result ≡ any (λ at. same (folded_at frame.now c.at) (folded_at frame.now at)) (chain earlier.now last) }
 {
-    let mut at = last as usize;
+    let mut at = usize::from(last);
     while at != 0 {
         let line = Cursor { at };
         if basics::same_bytes(c.name(frame, names), line.name(frame, names)) {
             return true;
         }
-        at = earlier[at / 5] as usize;
+        at = usize::from(earlier[at / 5]);
     }
     false
 }
@@ -276,7 +280,7 @@ fn repeated_term(frame: &[u8], names: &[u8], hashes: &[u32]) -> bool
     ensures { result ≡ repeated_term frame.now (lines frame.now) }
 {
     let mut last = [0u16; 256];
-    let mut earlier = [0u16; 820];
+    let mut earlier = [0u16; MAX_LINES];
     for (c, hash) in Cursors::lines(frame).zip(hashes) {
         let bucket = (hash % 256) as usize;
         let latest = last[bucket];
@@ -313,8 +317,8 @@ pub fn check_report(frame: &[u8]) -> Result<usize, Refusal>
     ensures refused { refused_under result ≡ report_refusal frame.now }
     ensures count { IfOk result (λ n. n ≡ length (lines frame.now)) }
 {
-    let mut names = [0u8; 4100];
-    let mut hashes = [0u32; 820];
+    let mut names = [0u8; MAX_BODY + 3];
+    let mut hashes = [0u32; MAX_LINES];
     read_report(frame, &mut names, &mut hashes)
 }
 

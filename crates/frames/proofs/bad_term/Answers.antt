@@ -1,4 +1,4 @@
-use Rattle.std.proofs.Common.{◌≡◌, ◌<◌, not, length, sym, ◌∙◌, rules, tests}
+use Rattle.std.proofs.Common.{not, ◌∙◌, rules, tests}
 use Rattle.std.proofs.lemmas.Iterator.Search.{any_from_yields_List}
 use Rattle.terms.specs.Terms.{is_term}
 use Rattle.frames.specs.Frames.{term_at, fields, bad_term}

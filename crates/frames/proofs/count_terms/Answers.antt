@@ -1,6 +1,4 @@
-use Rattle.std.proofs.Common.{ap, ◌∙◌, rules}
 use Rattle.std.proofs.lemmas.Iterator.Consumers.{count_from_yields_List}
-use Rattle.frames.specs.Frames.{terms}
 use Rattle.frames.proofs.Walk.{yields-fields}
 use Rattle.frames.proofs.count_terms.Goals as goal
 

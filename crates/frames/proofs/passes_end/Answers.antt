@@ -1,4 +1,4 @@
-use Rattle.std.proofs.Common.{◌≡◌, ◌<◌, ltb, length, sym, ◌∙◌, rules, tests}
+use Rattle.std.proofs.Common.{ltb, length, ◌∙◌, rules, tests}
 use Rattle.std.proofs.lemmas.Iterator.Search.{any_from_yields_List}
 use Rattle.frames.specs.Frames.{past_field, fields, passes_end}
 use Rattle.frames.proofs.Walk.{yields-fields, serves-in, any-list}

@@ -1,12 +1,12 @@
-use Rattle.std.proofs.Common.{ℕ, ◌≡◌, ◌<◌, ◌≤◌, ◌+◌, ◌||◌, Bool, not, eqb, length, List, refl, sym, ap, ◌∙◌, arith, rules, set}
+use Rattle.std.proofs.Common.{ℕ, ◌≡◌, ◌≤◌, ◌+◌, ◌||◌, Bool, not, eqb, length, List, refl, sym, ap, ◌∙◌, set}
 use Rattle.terms.specs.declared.Judged.{Judged}
 use Rattle.terms.specs.Terms.{is_term, fnv1a, judged_as}
 use Rattle.terms.proofs.Laws.{judged_term, judged_hash}
 use Rattle.frames.specs.declared.Cursor.{Cursor}
 use Rattle.frames.specs.declared.Cursors.{Cursors}
-use Rattle.frames.specs.Frames.{max_body, count_bytes, first_line, term_at, count_at, past_field, Field, folded_at, passes_end, bad_term, lines}
+use Rattle.frames.specs.Frames.{max_body, count_bytes, term_at, count_at, past_field, folded_at}
 use Rattle.frames.proofs.Fields.{field_term}
-use Rattle.frames.proofs.Walk.{Over, Turn, over-first, over-turn, over-end, turn-field}
+use Rattle.frames.proofs.Walk.{Turn, over-first, over-turn, over-end, turn-field}
 use Rattle.frames.proofs.Reports.{fields-cut, fields_bad, fields-zero, fields-none}
 use Rattle.frames.proofs.Read.{Reading, reading_none, reading_whole, reading_bad, reading_zero, reading_count, reading_hashed, reading_cut, reading_more}
 use Rattle.frames.proofs.read_lines.Goals as goal

@@ -1,4 +1,4 @@
-use Rattle.std.proofs.Common.{ℕ, ◌≤◌, List, length, sym, arith, rules}
+use Rattle.std.proofs.Common.{sym, arith}
 use Rattle.terms.proofs.Laws.{folded_front}
 use Rattle.frames.proofs.Heads.{headed}
 use Rattle.frames.proofs.Read.{all-hashes}

@@ -1,4 +1,4 @@
-use Rattle.std.proofs.Common.{ℕ, inl, inr, ◌≡◌, ◌<◌, ◌%◌, ◌*◌, ◌∷◌, List, Bool, true, false, Iter, length, get_or, set, refl, sym, ap, ◌∙◌, arith, rules}
+use Rattle.std.proofs.Common.{ℕ, inl, inr, ◌≡◌, ◌<◌, ◌%◌, ◌*◌, ◌∷◌, List, Bool, true, false, Iter, get_or, set, refl, sym, ap, ◌∙◌, arith}
 use Rattle.std.specs.Slice.Iter.{iter_rest}
 use Rattle.core.specs.declared.iter.adapters.Zip.{Zip}
 use Rattle.frames.specs.declared.Cursor.{Cursor}

@@ -1,4 +1,4 @@
-use Rattle.frames.proofs.Laws.{Sound, sound-lines}
+use Rattle.frames.proofs.Laws.{sound-lines}
 use Rattle.frames.proofs.report.Lines.iter.Goals as goal
 
 pub invariant_of-result : goal.invariant_of-result

@@ -1,4 +1,4 @@
-use Rattle.std.proofs.Common.{ℕ, ◌≡◌, sym, length, arith}
+use Rattle.std.proofs.Common.{ℕ, sym, arith}
 use Rattle.std.proofs.lemmas.List.{length-take}
 use Rattle.frames.proofs.Read.{all-hashes}
 use Rattle.frames.proofs.report.Lines.read.Goals as goal

@@ -1,7 +1,7 @@
-use Rattle.std.proofs.Common.{ℕ, ◌≡◌, ◌<◌, ◌+◌, List, ◌∷◌, length, sym, refl, arith, rules}
+use Rattle.std.proofs.Common.{◌<◌, length, sym, refl, arith}
 use Rattle.frames.specs.declared.report.LinesLeft.{LinesLeft}
 use Rattle.frames.specs.Frames.{count_bytes}
-use Rattle.frames.proofs.Fields.{field_here, field_term, whole-on}
+use Rattle.frames.proofs.Fields.{field_term, whole-on}
 use Rattle.frames.proofs.Conditions.{good_on}
 use Rattle.frames.proofs.Read.{hashes-some, hashes-none, first-hash, other-hashes}
 use Rattle.frames.proofs.Laws.{Sound, sound_field, sound-name, sound-some}

@@ -1,0 +1,15 @@
+-- Whether the whole chain has the term is whether what is left of it has.
+use Rattle.std.proofs.Common.{◌≡◌, ◌<◌}
+use Rattle.frames.specs.Frames.{count_bytes, Field, folded_at}
+use Rattle.frames.specs.Repeats.{chain}
+use Rattle.frames.proofs.Repeats.{has_term}
+use Rattle.frames.proofs.in_chain.Given as goal
+
+abbrev pub invariant-loop-at : goal.invariant-loop-at
+invariant-loop-at l = record {
+  left : has_term l.frame (folded_at l.frame l.c.at) (chain l.earlier l.last) ≡ has_term l.frame (folded_at l.frame l.c.at) (chain l.earlier l.at);
+  line : 0 < l.at → Field count_bytes l.frame l.at;
+}
+
+abbrev pub decreases-loop-at : goal.decreases-loop-at
+decreases-loop-at l = l.at
