@@ -6,13 +6,14 @@ use mathlib.Core.Bool.{true, false, cond}
 use mathlib.Core.List.{List}
 use Rattle.std.specs.Prelude.{Option, Some, None}
 use native.Mathlib.Omega.{arith}
+use native.Mathlib.Nat.{add-zero}
 use lib.Dec.{eqb, leb}
-use lib.ListN.{take, drop, length-take}
+use lib.ListN.{length, take, drop, length-take, length-drop, drop_of_length-le}
 use borrow.Author.Tests.{lt-ltb, le-ltb, le-leb, lt-leb, eq-eqb, ne_eqb, leb-false}
 use Rattle.basics.proofs.Cases.{by-lt, by-eq}
 use Rattle.basics.proofs.Lists.{or_left}
 use Rattle.postings.specs.Coding.{posting, decoded}
-use Rattle.postings.proofs.Laws.{decoded-within}
+use Rattle.postings.proofs.Laws.{decoded-nil, decoded-within}
 use Rattle.postings.specs.declared.Decoded.{Decoded}
 use Rattle.blocks.specs.Fields.{block_size, place, link_of, part_of}
 use Rattle.chains.specs.declared.Cursor.{Cursor}
@@ -45,6 +46,20 @@ unfolding part_of
 part_is a b at to start e p q =
     let k : place b + to - (place b + at) ≡ to - at = omega arith in
     rw (p, q, k)
+
+-- the whole part that a slice from `start` up to `start + e` is
+pub whole_part : (a : List ℕ) (b to start e : ℕ) → start ≡ place b → e ≡ to → take (start + e - start) (drop start a) ≡ part_of a b 0 to
+unfolding part_of
+whole_part a b to start e p q =
+    let k : place b + to - place b ≡ to - 0 = omega arith in
+    rw (p, q, k, add-zero)
+
+-- nothing is decoded from the part's end on, and what is decoded ends in the part
+pub decoded_past : (part : List ℕ) (at : ℕ) → length part ≤ at → decoded (drop at part) ≡ None
+decoded_past part at h = ap decoded (drop_of_length-le part h) ∙ decoded-nil
+
+pub decoded_ends : (part : List ℕ) (at : ℕ) (d : Decoded) → decoded (drop at part) ≡ Some d → at < length part → at + d.length ≤ length part
+decoded_ends part at d e h = omega (arith, simp length-drop at (decoded-within (drop at part) e).1)
 
 -- a posting lies within its part
 pub part_within : (a : List ℕ) (b at to g f l : ℕ) → decoded (part_of a b at to) ≡ posting g f l → l ≤ to - at
@@ -171,3 +186,9 @@ module _ (a : List ℕ) (used reports : ℕ) (c : Cursor) where
   pub step_here : exhausted a c ≡ false → step_at a used reports c ≡ read_at a reports c c.number
   unfolding step_at
   step_here e = rw e
+
+-- what the steps in a part need of its bounds and bytes
+pub ruleset in_part = (part_end_le, part_is, whole_part, decoded_past, decoded_ends, length-take)
+
+-- and what those from one part to the next need
+pub ruleset stepping = (part_end_le, part_end_ge, not-exhausted)

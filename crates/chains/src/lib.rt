@@ -52,7 +52,7 @@ pub fn part_end(c: Cursor) -> usize
 }
 
 // The posting at the cursor, its gap counted from `base`.
-#[tactic(auto, using(crate::proofs::Steps::part_end_le, crate::proofs::Steps::part_is), unfolding(crate::specs::Chains::read_at, crate::specs::Chains::given))]
+#[tactic(auto, using(crate::proofs::Steps::in_part), unfolding(crate::specs::Chains::read_at, crate::specs::Chains::given))]
 fn read_at(arena: &[u8], reports: u32, c: Cursor, base: u32) -> Result<Option<Step>, Refusal>
     requires { (place c.block + 64 ≤ length arena.now) × (c.end ≤ 64) × (c.at ≤ part_end c c.block) }
     ensures { result ≡ read_at arena.now reports c base }
@@ -98,7 +98,7 @@ fn entered(c: Cursor, b: u32) -> Cursor
 }
 
 // The first posting of the next block.
-#[tactic(auto, unfolding(crate::specs::Chains::next_block))]
+#[tactic(auto, using(crate::proofs::Steps::stepping), unfolding(crate::specs::Chains::next_block, crate::specs::Chains::entered))]
 pub fn next_block(arena: &[u8], used: u32, reports: u32, c: Cursor) -> Result<Option<Step>, Refusal>
     requires { Follows arena.now used c × (4 ≤ c.end) }
     ensures { result ≡ next_block arena.now used reports c }
@@ -114,7 +114,7 @@ pub fn next_block(arena: &[u8], used: u32, reports: u32, c: Cursor) -> Result<Op
 }
 
 // One posting after another: the one at the cursor with the cursor past it; none at the chain's end.
-#[tactic(auto, unfolding(crate::specs::Chains::step_at))]
+#[tactic(auto, using(crate::proofs::Steps::stepping), unfolding(crate::specs::Chains::step_at))]
 pub fn advance(arena: &[u8], used: u32, reports: u32, c: Cursor) -> Result<Option<Step>, Refusal>
     requires { Follows arena.now used c × (4 ≤ c.end) }
     ensures { result ≡ step_at arena.now used reports c }
@@ -177,6 +177,7 @@ pub fn pass<const JUDGED: bool>(
 
 // Reads on to the part's end, or to where no sound posting stands. All postings are added up before the last number is judged; only where that is over
 // reports, so that the part is damaged, it is read again for the posting that is.
+#[tactic(auto, using(crate::proofs::Added::added_passed))]
 fn pass_all(part: &[u8], reports: u32, at: usize, number: u32) -> Passed
     requires { (number ≤ reports) × (length part.now ≤ block_size) }
     ensures { result ≡ passed part.now reports at number reports }
@@ -200,6 +201,7 @@ pub fn moved(c: Cursor, at: usize, number: u32) -> Cursor
 }
 
 // The cursor's place behind what is passed of its block's part, from behind its first posting on, in a chain that was read whole before.
+#[tactic(auto, using(crate::proofs::Steps::in_part, crate::proofs::Passing::passed_known), unfolding(crate::specs::Parts::passed_to))]
 pub fn pass_part(arena: &[u8], c: Cursor, to: u32) -> Cursor
     requires { InPart arena.now max_word c × Known arena.now max_word c }
     ensures { (reports : ℕ) → Known arena.now reports c → result ≡ passed_to arena.now reports c to }
@@ -302,6 +304,7 @@ pub fn at_head(d: Head, used: u32, h: u32) -> Cursor
 
 // Reads the part of the cursor's block from the cursor on: its first posting, whose gap counts from `base`, and those behind it. None where no
 // sound posting stands there.
+#[tactic(auto, using(crate::proofs::Steps::in_part), unfolding(crate::specs::Parts::part_read, crate::specs::Parts::opened))]
 fn read_part(arena: &[u8], reports: u32, c: Cursor, base: u32) -> Option<PartRead>
     requires { (place c.block + 64 ≤ length arena.now) × (c.end ≤ block_size) × (base ≤ reports) }
     ensures { result ≡ part_read (part_of arena.now c.block 0 (part_end c c.block)) reports c.at base }
@@ -356,8 +359,10 @@ pub fn is_sound(arena: &[u8], used: u32, reports: u32, h: u32) -> bool
         }
         n += 1 + r.rest.postings;
         c = Cursor {
+            at: r.rest.at,
+            number: r.rest.number,
             first: r.first,
-            ..moved(c, r.rest.at, r.rest.number)
+            ..c
         };
         if !is_exhausted(arena, c) {
             return false;

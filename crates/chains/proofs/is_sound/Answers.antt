@@ -1,0 +1,82 @@
+-- Each turn reads a block, and what is left to read, judged by the postings counted so far, stays the answer.
+use Rattle.std.proofs.Common.{◌+◌, sym, ap, ◌∙◌, arith, eq-eqb, ne_eqb, lt-ltb}
+use Rattle.blocks.proofs.Fields.{head-short}
+use Rattle.chains.specs.declared.Cursor.{Cursor}
+use Rattle.chains.specs.Chains.{at_head, entered}
+use Rattle.chains.proofs.Counting.{unsound, start, after, not_read, not_begun, Read, part_counted, tail_ended, part_broken, none_left, unlinked, next_entering}
+use Rattle.chains.proofs.is_sound.Goals as goal
+use Rattle.chains.proofs.is_sound.Goals.{Else-r-c, then-c-eq0-via-then-c-eq0, then-c-eq0-via-else-c-eq0+then-used-next}
+
+-- the length of the term is a byte
+pub is_bad_head-requires : goal.is_bad_head-requires
+is_bad_head-requires c = head-short _ _ c.head_of-d.ensures (λ i. (c.type_inv.arena i).fits)
+
+pub at_head-c-requires : goal.at_head-c-requires
+at_head-c-requires c = (omega arith, head-short _ _ c.head_of-d.ensures (λ i. (c.type_inv.arena i).fits))
+
+pub returns-then-is_bad_head : goal.returns-then-is_bad_head
+returns-then-is_bad_head c = sym (unsound _ _ _ _ c.head_of-d.ensures (sym c.is_bad_head.ensures ∙ c.if-is_bad_head.true))
+
+pub loop-r-init : goal.loop-r-init
+unfolding at_head
+loop-r-init c = record {
+  entering =
+      rw c.at_head-c.ensures
+      (start _ _ _ _ c.head_of-d.ensures c.requires.0 c.requires.1 (sym c.is_bad_head.ensures ∙ c.if-is_bad_head.false));
+  linked = rw c.at_head-c.ensures c.link_of-next.ensures;
+}
+
+pub returns-in_default : goal.returns-in_default
+returns-in_default c = sym (not_read c.loop-r.invariant.entering (sym c.in_default.is ∙ c.read_part.ensures))
+
+pub returns-then-r-c : goal.returns-then-r-c
+returns-then-r-c c = sym (not_begun c.loop-r.invariant.entering (sym c.in-Some.is ∙ c.read_part.ensures) c.if-r-c.true)
+
+-- a part was read
+read : (c : Else-r-c)
+    → Read c.args.arena.now c.args.used c.args.reports c.args.h c.head_of-d.result (after c.loop-r.c c.in-Some.r) (c.loop-r.n + (1 + c.in-Some.r.rest.postings))
+read c = part_counted c.loop-r.invariant.entering (sym c.in-Some.is ∙ c.read_part.ensures) c.if-r-c.false
+
+pub overflow_add-n : goal.overflow_add-n
+overflow_add-n c = let w = (read (goal.at.overflow_add-n c).Else-r-c).counted in omega (arith, w.few, w.within)
+
+pub overflow_add-n-in-loop-r : goal.overflow_add-n-in-loop-r
+overflow_add-n-in-loop-r c = let w = (read (goal.at.overflow_add-n-in-loop-r c).Else-r-c).counted in omega (arith, w.few, w.within)
+
+pub returns-then-not-is_exhausted : goal.returns-then-not-is_exhausted
+returns-then-not-is_exhausted c =
+    sym (part_broken (read (goal.at.returns-then-not-is_exhausted c).Else-r-c) (sym c.is_exhausted.ensures ∙ c.if-not-is_exhausted.true))
+
+pub returns-then-n-d : goal.returns-then-n-d
+returns-then-n-d c =
+    sym (tail_ended (read (goal.at.returns-then-n-d c).Else-r-c) (sym c.is_exhausted.ensures ∙ c.if-not-is_exhausted.false) c.if-c.true
+    ∙ rw (eq-eqb _ _ c.if-n-d.true))
+
+pub returns-else-n-d : goal.returns-else-n-d
+returns-else-n-d c =
+    sym (tail_ended (read (goal.at.returns-else-n-d c).Else-r-c) (sym c.is_exhausted.ensures ∙ c.if-not-is_exhausted.false) c.if-c.true
+    ∙ rw (ne_eqb _ _ c.if-n-d.false))
+
+pub returns-then-c-eq0 : goal.returns-then-c-eq0
+returns-then-c-eq0 c =
+    let v = read (goal.at.returns-then-c-eq0 c).Else-r-c in
+    let i = sym c.is_exhausted.ensures ∙ c.if-not-is_exhausted.false in
+    sym (elim c.then-c-eq0.branch [
+      then-c-eq0-via-then-c-eq0 w ↦ none_left v i c.if-c.false w.if-c-eq0.true
+      | then-c-eq0-via-else-c-eq0+then-used-next w ↦ unlinked v i c.if-c.false (omega (arith, w.if-used-next.true, c.loop-r.invariant.linked))
+    ])
+
+pub loop-r-smaller : goal.loop-r-smaller
+unfolding entered
+loop-r-smaller c = omega (arith, ap (λ (x : Cursor). x.left) c.entered-c.ensures)
+
+pub loop-r-preserved : goal.loop-r-preserved
+unfolding entered
+loop-r-preserved c =
+    let v = read (goal.at.loop-r-preserved c).Else-r-c in
+    let i = sym c.is_exhausted.ensures ∙ c.if-not-is_exhausted.false in
+    let l = c.loop-r.invariant.linked in
+    record {
+      entering = rw (c.entered-c.ensures, l) (next_entering v i c.if-c.false c.if-c-eq0.false (omega (arith, c.if-used-next.false, l)));
+      linked = rw c.entered-c.ensures (c.link_ahead-after.ensures ∙ rw (lt-ltb _ _ c.if-used-next.false));
+    }
