@@ -12,8 +12,10 @@ use lib.ListN.{length, get_or, take, drop}
 use lib.Seq.{drop-cons}
 pub use lib.Seq.{take-nil}
 pub use Rattle.std.proofs.lemmas.List.{drop-replicate}
+use Rattle.std.proofs.lemmas.List.{take_more}
 use Rattle.std.proofs.lemmas.Bool.{false_from_ne_true}
-use Rattle.basics.specs.Lists.{all, keep, same}
+use Rattle.std.specs.List.{list_all, list_any}
+use Rattle.basics.specs.Lists.{all, any, keep, same}
 
 -- ---- conjunctions
 
@@ -54,11 +56,29 @@ module _ {A : Type 0} (f : A → Bool) where
   all_append [] t = refl
   all_append (x ∷ s) t = rw (all_append s t, and_assoc)
 
+  -- the test at one element more
+  pub all_more : (s : List A) (d : A) (i : ℕ) → i < length s → all f (take (i + 1) s) ≡ (all f (take i s) && f (get_or s i d))
+  unfolding all
+  all_more s d i h = rw (take_more s i d h, all_append, and-true)
+
   -- the test at what a map makes of each element
   pub all_map : {B : Type 0} (g : B → A) (s : List B) → all f (map g s) ≡ all (λ x. f (g x)) s
   unfolding all
   all_map g [] = refl
   all_map g (x ∷ s) = rw (all_map g s)
+
+-- ---- the same by the library's words, which chains of iterators speak of
+
+module _ {A : Type 0} (f : A → Bool) where
+  pub all-list : (s : List A) → all f s ≡ list_all f s
+  unfolding all
+  all-list [] = refl
+  all-list (x ∷ s) = rw (all-list s)
+
+  pub any-list : (s : List A) → any f s ≡ list_any f s
+  unfolding any
+  any-list [] = refl
+  any-list (x ∷ s) = rw (any-list s)
 
 -- ---- the elements that a test keeps
 

@@ -34,6 +34,10 @@ sets_two s i a b p q r = r ∙ rw (p, q) (sets-append s i a b)
 pub sets_turn : {A : Type 0} (s : List A) (at : ℕ) (z : List A) (i : ℕ) (x d : A) → i < length z → x ≡ get_or z i d → sets (set s (at + i) x) (at + (i + 1)) (drop (i + 1) z) ≡ sets s (at + i) (drop i z)
 sets_turn s at z i x d h e = rw (e, add-one, drop-cons z i d h, add-suc)
 
+-- the same from the front on
+pub sets_front_turn : {A : Type 0} (s z : List A) (i : ℕ) (x d : A) → i < length z → x ≡ get_or z i d → sets (set s i x) (i + 1) (drop (i + 1) z) ≡ sets s i (drop i z)
+sets_front_turn s z i x d h e = simp zero-add at (sets_turn s 0 z i x d h e)
+
 pub sets_end : {A : Type 0} (s : List A) (at : ℕ) (z : List A) (i : ℕ) → length z ≤ i → sets s at (drop i z) ≡ s
 sets_end s at z i h = rw (drop_of_length-le z h)
 

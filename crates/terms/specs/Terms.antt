@@ -1,5 +1,5 @@
 -- Terms: which bytes they may have and how they are folded (document 01, "Frames"), and their hash ("Finding a term").
-use Rattle.std.specs.Prelude.{ℕ, ◌+◌, ◌*◌, ◌%◌, ◌^◌, List, [], ◌∷◌, map, Bool, cond, ◌&&◌, leb, ltb, length}
+use Rattle.std.specs.Prelude.{ℕ, ◌+◌, ◌*◌, ◌%◌, ◌^◌, List, map, fold, Bool, cond, ◌&&◌, leb, ltb, length}
 use Rattle.std.specs.Int.Bits.{bit_xor}
 use Rattle.basics.specs.Lists.{all}
 use Rattle.terms.specs.declared.Judged.{Judged}
@@ -34,12 +34,8 @@ is_term s = leb 1 (length s) && leb (length s) max_term && all allowed s
 unfoldable pub mixed : ℕ → ℕ → ℕ
 mixed hash b = bit_xor hash b * 16777619 % 2 ^ 32
 
-unfoldable pub mixed_all : ℕ → List ℕ → ℕ
-mixed_all hash [] = hash
-mixed_all hash (b ∷ s) = mixed_all (mixed hash b) s
-
 unfoldable pub fnv1a : List ℕ → ℕ
-fnv1a s = mixed_all 2166136261 s
+fnv1a s = fold mixed 2166136261 s
 
 -- ---- folded bytes, judged once
 

@@ -12,8 +12,7 @@ pub struct Judged {
     pub hash: u32,
 }
 
-// The folded byte, or 0 where the byte is barred. A function copies it into a local before its loop: indexed as a constant it would be laid out
-// anew in every turn.
+// The folded byte, or 0 where the byte is barred.
 const FOLDED: [u8; 256] = [
     0, 0, 0, 0, 0, 0, 0, 0, 0, 0, 0, 0, 0, 0, 0, 0, 0, 0, 0, 0, 0, 0, 0, 0, 0, 0, 0, 0, 0, 0, 0, 0,
     0, // 20, barred
@@ -33,62 +32,52 @@ const FOLDED: [u8; 256] = [
     0, 0, 0, 0, 0, 0, 0, 0, 0, 0, 0, 0, 0, 0, 0, 0, 0, 0, 0, 0, 0, 0, 0, 0, 0, 0, 0, 0, 0, 0, 0, 0, // FF, barred
 ];
 
+// FNV-1a with 32 bits: where a hash begins, and the prime by which each byte multiplies it.
+const START: u32 = 2166136261;
+
+const PRIME: u32 = 16777619;
+
+// A byte folded by the table, which has 0 for a barred one.
+fn entry_of(b: u8) -> u8
+    ensures { result ≡ fold_byte b }
+{
+    FOLDED[usize::from(b)]
+}
+
 // Whether the bytes are a term.
+#[tactic(auto, using(std::proofs::lemmas::Bool::Decides::nat_tests), unfolding(crate::specs::Terms::is_term))]
 pub fn is_term(s: &[u8]) -> bool
     ensures { result ≡ is_term s.now }
 {
-    if s.len() == 0 || 36 < s.len() {
-        return false;
-    }
-    let table = FOLDED;
-    let mut i: usize = 0;
-    while i < s.len() {
-        if table[s[i] as usize] == 0 {
-            return false;
-        }
-        i += 1;
-    }
-    true
+    1 <= s.len() && s.len() <= 36 && s.iter().all(|b| entry_of(*b) != 0)
 }
 
-// One byte more into a hash. The product is taken with 64 bits and cut to 32.
+// One byte more into a hash.
+#[tactic(auto, unfolding(crate::specs::Terms::mixed))]
 fn mix(hash: u32, b: u8) -> u32
     ensures { result ≡ mixed hash b }
 {
-    let x = hash ^ (b as u32);
-    ((x as u64) * 16777619 % 4294967296) as u32
+    (hash ^ u32::from(b)).wrapping_mul(PRIME)
 }
 
 // FNV-1a of the bytes as they stand.
+#[tactic(auto, unfolding(crate::specs::Terms::fnv1a))]
 pub fn fnv1a(s: &[u8]) -> u32
     ensures { result ≡ fnv1a s.now }
 {
-    let mut hash: u32 = 2166136261;
-    let mut i: usize = 0;
-    while i < s.len() {
-        hash = mix(hash, s[i]);
-        i += 1;
-    }
-    hash
+    s.iter().fold(START, |hash, b| mix(hash, *b))
 }
 
 // A byte folded by the rule. A loop over it takes sixteen bytes at a time, one over the table only one.
+#[tactic(auto, using(std::proofs::lemmas::Bool::Decides::nat_tests), unfolding(crate::specs::Terms::fold_byte, crate::specs::Terms::allowed, crate::specs::Terms::capital))]
 fn fold_byte(b: u8) -> u8
     ensures { result ≡ fold_byte b }
 {
-    if b < 33 {
-        return 0;
+    match b {
+        b'A'..=b'Z' => b + 32,
+        b'!'..=b'~' => b,
+        _ => 0,
     }
-    if 126 < b {
-        return 0;
-    }
-    if b < 65 {
-        return b;
-    }
-    if 90 < b {
-        return b;
-    }
-    b + 32
 }
 
 // Writes the folded bytes at the front of `into`.
@@ -96,10 +85,8 @@ pub fn fold(s: &[u8], into: &mut [u8])
     requires { length s.now ≤ length into.old }
     ensures { into.new ≡ sets into.old 0 (folded s.now) }
 {
-    let mut i: usize = 0;
-    while i < s.len() {
-        into[i] = fold_byte(s[i]);
-        i += 1;
+    for (i, b) in s.iter().enumerate() {
+        into[i] = fold_byte(*b);
     }
 }
 
@@ -107,22 +94,14 @@ pub fn fold(s: &[u8], into: &mut [u8])
 pub fn judge(name: &[u8]) -> Judged
     ensures { result ≡ judged_as name.now }
 {
-    let mut hash: u32 = 2166136261;
-    let mut least: u8 = 255;
-    let mut i: usize = 0;
-    while i < name.len() {
-        let b = name[i];
-        if b < least {
-            least = b;
-        }
-        hash = mix(hash, b);
-        i += 1;
-    }
-    if i == 0 || 36 < i {
-        return Judged { term: false, hash };
+    let mut hash = START;
+    let mut least = u8::MAX;
+    for b in name {
+        least = least.min(*b);
+        hash = mix(hash, *b);
     }
     Judged {
-        term: 0 < least,
+        term: 1 <= name.len() && name.len() <= 36 && 0 < least,
         hash,
     }
 }
