@@ -4,6 +4,7 @@ pub mod Reading
 pub mod Calls
 pub mod One
 pub mod Seeking
+pub mod Walking
 pub mod Windowed
 pub mod Gathering
 pub mod Asking
