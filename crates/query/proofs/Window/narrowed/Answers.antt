@@ -12,7 +12,7 @@ returns c =
     let b = c.marked_by_both-mask in
     let Ends : ℕ → Type 0 = λ to. (In w.base w.to → In w.base to) × ((n : ℕ) → In w.base n → is_marked b.result w.base n ≡ true → n ≤ to) in
     let ends : Ends c.if-mask-eq0.result = elim c.if-mask-eq0.branch [
-      then-mask-eq0 v ↦ rw v.result-is
+      | then-mask-eq0 v ↦ rw v.result-is
           (λ i. i, λ n i e. absurd (true≢false (sym e ∙ ap (λ (z : ℕ). is_marked z w.base n) v.if-mask-eq0.true ∙ marked-none w.base n)))
       | else-mask-eq0 v ↦ rw v.result-is (λ _. v.last_marked.ensures.0, v.last_marked.ensures.2)
     ] in
