@@ -1,6 +1,5 @@
 use Rattle.std.proofs.Common.{ℕ, inl, inr, ◌≡◌, ◌<◌, ◌%◌, ◌*◌, ◌∷◌, List, Bool, true, false, Iter, get_or, set, refl, sym, ap, ◌∙◌, arith}
 use Rattle.std.specs.Slice.Iter.{iter_rest}
-use Rattle.core.specs.declared.iter.adapters.Zip.{Zip}
 use Rattle.frames.specs.declared.Cursor.{Cursor}
 use Rattle.frames.specs.declared.Cursors.{Cursors}
 use Rattle.frames.specs.Frames.{count_bytes, fields, lines, folded_at, repeated_term}
@@ -33,14 +32,15 @@ module _ {f hashes others last earlier : List ℕ} {s t : Cursors} {c : Cursor} 
 
 pub loop-c-init : goal.loop-c-init
 loop-c-init c =
-    let i = ap (λ (z : Zip Cursors (Iter ℕ)). z.a) c.into_iter-c-iterator.ensures.into_iter_gives ∙ c.zip-c-items.ensures.first in
+    let g = c.into_iter-c-iterator.ensures.into_iter_gives in
+    let i : c.into_iter-c-iterator.result.a ≡ c.lines.result = rw g c.zip-c-items.ensures.first in
     let o = over-first i c.lines.ensures in
     let f = c.args.frame.now in
     record {
       can = (tt, tt);
       ends = tt;
       over = o.0;
-      hashed = rw (o.1, ap (λ (z : Zip Cursors (Iter ℕ)). iter_rest z.b) c.into_iter-c-iterator.ensures.into_iter_gives) (c.zip-c-items.ensures.second.0 ∙ c.requires.3);
+      hashed = rw (o.1, g) (c.zip-c-items.ensures.second.0 ∙ c.requires.3);
       passed = rw o.1 (passed_none f 256 820 refl refl (omega arith) c.requires.1);
     }
 
