@@ -1,7 +1,7 @@
 // Chains of blocks (document 01, "Blocks"): a cursor that gives one posting after another, and reading a whole chain for damage.
 #![tactic(auto)]
 
-ghost use Rattle.std.specs.Prelude.{◌≡◌, cond, false, ◌||◌, ℕ, ◌+◌, ◌≤◌, ◌<◌, ltb, leb, eqb, length, get_or};
+ghost use Rattle.std.specs.Prelude.{◌≡◌, cond, false, ◌&&◌, ℕ, ◌+◌, ◌≤◌, ◌<◌, ltb, eqb, length};
 ghost use Rattle.sums.specs.Adding.{Bounded};
 ghost use Rattle.blocks.specs.Fields.{max_word, block_size, place, link_of, part_of};
 ghost use Rattle.chains.specs.Chains.{part_end, exhausted, read_at, entered, next_block, step_at, step_from, at_head, bad_head, chain_of, is_whole, Follows};
@@ -183,7 +183,7 @@ fn pass_all(part: &[u8], reports: u32, at: usize, number: u32) -> Passed
     ensures { result ≡ passed part.now reports at number reports }
 {
     let all = sums::add_all(part, at, number);
-    if (reports as u64) < all.number {
+    if u64::from(reports) < all.number {
         return pass::<true>(part, reports, at, number, reports);
     }
     Passed {
@@ -335,6 +335,13 @@ fn link_ahead(arena: &[u8], used: u32, b: u32) -> u32
     0
 }
 
+// Whether n postings up to a number are those that a head says.
+fn agrees(d: Head, n: u32, number: u32) -> bool
+    ensures { result ≡ eqb n d.postings && eqb number d.last }
+{
+    n == d.postings && number == d.last
+}
+
 // Reads the chain of head h whole: whether it is sound. Each turn reads a block; `base` is the first number of the block before, 0 at the head. The
 // next block's link is asked for before this one is read: its load misses the caches, and so it overlaps with the reading.
 pub fn is_sound(arena: &[u8], used: u32, reports: u32, h: u32) -> bool
@@ -368,7 +375,7 @@ pub fn is_sound(arena: &[u8], used: u32, reports: u32, h: u32) -> bool
             return false;
         }
         if c.block == c.tail {
-            return n == d.postings && c.number == d.last;
+            return agrees(d, n, c.number);
         }
         if c.left == 0 || used <= next {
             return false;

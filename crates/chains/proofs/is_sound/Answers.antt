@@ -1,5 +1,5 @@
 -- Each turn reads a block, and what is left to read, judged by the postings counted so far, stays the answer.
-use Rattle.std.proofs.Common.{◌+◌, sym, ap, ◌∙◌, arith, eq-eqb, ne_eqb, lt-ltb}
+use Rattle.std.proofs.Common.{◌+◌, sym, ap, ◌∙◌, arith, lt-ltb}
 use Rattle.blocks.proofs.Fields.{head-short}
 use Rattle.chains.specs.declared.Cursor.{Cursor}
 use Rattle.chains.specs.Chains.{at_head, entered}
@@ -47,22 +47,17 @@ pub returns-then-not-is_exhausted : goal.returns-then-not-is_exhausted
 returns-then-not-is_exhausted c =
     sym (part_broken (read (goal.at.returns-then-not-is_exhausted c).Else-r-c) (sym c.is_exhausted.ensures ∙ c.if-not-is_exhausted.true))
 
-pub returns-then-n-d : goal.returns-then-n-d
-returns-then-n-d c =
-    sym (tail_ended (read (goal.at.returns-then-n-d c).Else-r-c) (sym c.is_exhausted.ensures ∙ c.if-not-is_exhausted.false) c.if-c.true
-    ∙ rw (eq-eqb _ _ c.if-n-d.true))
-
-pub returns-else-n-d : goal.returns-else-n-d
-returns-else-n-d c =
-    sym (tail_ended (read (goal.at.returns-else-n-d c).Else-r-c) (sym c.is_exhausted.ensures ∙ c.if-not-is_exhausted.false) c.if-c.true
-    ∙ rw (ne_eqb _ _ c.if-n-d.false))
+pub returns-then-c : goal.returns-then-c
+returns-then-c c =
+    c.agrees.ensures
+    ∙ sym (tail_ended (read (goal.at.returns-then-c c).Else-r-c) (sym c.is_exhausted.ensures ∙ c.if-not-is_exhausted.false) c.if-c.true)
 
 pub returns-then-c-eq0 : goal.returns-then-c-eq0
 returns-then-c-eq0 c =
     let v = read (goal.at.returns-then-c-eq0 c).Else-r-c in
     let i = sym c.is_exhausted.ensures ∙ c.if-not-is_exhausted.false in
     sym (elim c.then-c-eq0.branch [
-      then-c-eq0-via-then-c-eq0 w ↦ none_left v i c.if-c.false w.if-c-eq0.true
+      | then-c-eq0-via-then-c-eq0 w ↦ none_left v i c.if-c.false w.if-c-eq0.true
       | then-c-eq0-via-else-c-eq0+then-used-next w ↦ unlinked v i c.if-c.false (omega (arith, w.if-used-next.true, c.loop-r.invariant.linked))
     ])
 

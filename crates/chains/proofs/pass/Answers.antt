@@ -21,7 +21,7 @@ further g c =
       found = e;
       in_reports_lem =
           elim c.else-this-ne0.branch [
-            else-this-ne0-via-then-this-ne0+else-reports-n w ↦ omega (arith, w.if-reports-n.false, c.loop-p.invariant.in_reports_lem)
+            | else-this-ne0-via-then-this-ne0+else-reports-n w ↦ omega (arith, w.if-reports-n.false, c.loop-p.invariant.in_reports_lem)
             | else-this-ne0-via-else-this-ne0 w ↦ bounded_here (bounded_on (c.loop-p.invariant.known w.if-this-ne0.false) c.loop-p-test.true e)
           ];
     }
