@@ -29,13 +29,22 @@ pub fn read_word(s: &[u8], at: usize) -> u32
     u32::from_be_bytes([s[at], s[at + 1], s[at + 2], s[at + 3]])
 }
 
+// Writes bytes from `at` on.
+#[tactic(auto, using(crate::proofs::Stores::put_mid_sets))]
+pub fn write_bytes(s: &mut [u8], at: usize, bytes: &[u8])
+    requires { at + length bytes.now ≤ length s.old }
+    ensures { s.new ≡ sets s.old at bytes.now }
+{
+    s[at..at + bytes.len()].copy_from_slice(bytes);
+}
+
 // Writes a number into the four bytes from `at` on.
-#[tactic(auto, using(crate::proofs::Stores::put_mid_sets), unfolding(crate::specs::Words::word))]
+#[tactic(auto, unfolding(crate::specs::Words::word))]
 pub fn write_word(s: &mut [u8], at: usize, n: u32)
     requires { at + 4 ≤ length s.old }
     ensures { s.new ≡ sets s.old at (word n) }
 {
-    s[at..at + 4].copy_from_slice(&n.to_be_bytes());
+    write_bytes(s, at, &n.to_be_bytes());
 }
 
 // Whether two slices have the same bytes.

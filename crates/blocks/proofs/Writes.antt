@@ -6,6 +6,8 @@ use mathlib.Core.List.{List, [], ◌∷◌, ◌++◌, append_assoc}
 use Prim.Native.Nat.{ℕ, ◌+◌, ◌-◌, ◌≤◌, ◌<◌}
 use native.Mathlib.Omega.{arith}
 use borrow.Author.Tests.{leb-true}
+use Rattle.std.proofs.lemmas.Bool.Decides.{nat_tests}
+use Rattle.postings.proofs.Laws.{length-code_le}
 use lib.ListN.{length, get_or, replicate, length-append, length-replicate, get_or-replicate}
 use lib.Seq.{sets, length-sets}
 use Rattle.basics.specs.Words.{word}
@@ -24,11 +26,6 @@ use Rattle.blocks.specs.Writes.{padded, growing, changing, head_bytes, open_head
 pub length-padded : (s : List ℕ) → length s ≤ block_size → length (padded s) ≡ block_size
 unfolding padded
 length-padded s h = simp (length-append, length-replicate) (omega arith)
-
--- its bytes are null
-pub padded_null : (i : ℕ) → i < block_size → get_or (padded []) i 0 ≡ 0
-unfolding padded
-padded_null i h = get_or-replicate block_size i 0 0 h
 
 -- bytes written at the front of a cleared block
 pub padded-over : (a : List ℕ) (p : ℕ) (s : List ℕ) → length s ≤ block_size → sets (sets a p (padded [])) p s ≡ sets a p (padded s)
@@ -152,3 +149,6 @@ length-add_to a h d n f = simp length-sets
 pub length-join_to : (a : List ℕ) (h : ℕ) (d : Head) (b n f : ℕ) → length (join_to a h d b n f) ≡ length a
 unfolding join_to
 length-join_to a h d b n f = simp length-sets
+
+-- what the test of a posting's room takes
+pub ruleset fitting = (nat_tests, length-code_le)

@@ -9,7 +9,7 @@ ghost use Rattle.blocks.specs.Fields.{block_size, capacity, place, link_of, head
 ghost use Rattle.blocks.specs.Marked.{marked_right};
 ghost use Rattle.blocks.specs.Writes.{padded, growing, changing, open_head, fits, add_to, join_to, append, Appends, InTail};
 
-use postings::{BGap, DGap};
+use postings::{BGap, DGap, Gap};
 
 // The fields of a head but its link and its term.
 #[derive(Clone, Copy)]
@@ -22,15 +22,11 @@ pub struct Head {
 }
 
 // How many blocks an arena holds.
+#[tactic(auto, unfolding(crate::specs::Fields::capacity))]
 pub fn capacity_of(arena: &[u8]) -> u32
     ensures { result ≡ capacity arena.now }
 {
-    let blocks = arena.len() / 64;
-    if blocks < 4294967295 {
-        blocks as u32
-    } else {
-        4294967295
-    }
+    basics::saturated(arena.len() / 64)
 }
 
 // Where a block stands in the arena.
@@ -41,6 +37,7 @@ pub fn place_of(b: u32) -> usize
 }
 
 // The next block's number; in the tail, the block's first report number.
+#[tactic(auto, unfolding(crate::specs::Fields::link_of))]
 pub fn link_of(arena: &[u8], b: u32) -> u32
     requires { place b + block_size ≤ length arena.now }
     ensures { result ≡ link_of arena.now b }
@@ -48,6 +45,7 @@ pub fn link_of(arena: &[u8], b: u32) -> u32
     basics::read_word(arena, place_of(b))
 }
 
+#[tactic(auto, unfolding(crate::specs::Fields::head_of))]
 pub fn head_of(arena: &[u8], h: u32) -> Head
     requires { place h + block_size ≤ length arena.now }
     ensures { result ≡ head_of arena.now h }
@@ -57,12 +55,13 @@ pub fn head_of(arena: &[u8], h: u32) -> Head
         tail: basics::read_word(arena, at + 4),
         last: basics::read_word(arena, at + 8),
         postings: basics::read_word(arena, at + 12),
-        end: basics::wide(arena[at + 16]),
-        length: basics::wide(arena[at + 17]),
+        end: usize::from(arena[at + 16]),
+        length: usize::from(arena[at + 17]),
     }
 }
 
 // Where the postings of block b begin in the chain of head h.
+#[tactic(auto, unfolding(crate::specs::Fields::part_start))]
 pub fn part_start(d: Head, h: u32, b: u32) -> usize
     requires { d.length < 256 }
     ensures { result ≡ part_start d h b }
@@ -73,66 +72,43 @@ pub fn part_start(d: Head, h: u32, b: u32) -> usize
 // ---- writing
 
 // Writes nulls into a block.
+#[tactic(auto, using(basics::proofs::Stores::put_mid_sets), unfolding(crate::specs::Writes::padded))]
 fn clear(arena: &mut [u8], b: u32)
     requires { place b + block_size ≤ length arena.old }
     ensures { arena.new ≡ sets arena.old (place b) (padded []) }
 {
     let from = place_of(b);
-    let mut i: usize = 0;
-    while i < 64 {
-        arena[from + i] = 0;
-        i += 1;
-    }
+    arena[from..from + 64].fill(0);
 }
 
 // Writes the fields of a head that every posting changes.
-fn put_growing(arena: &mut [u8], h: u32, last: u32, postings: u32, end: usize)
-    requires { (place h + block_size ≤ length arena.old) × (end < 256) }
-    ensures { arena.new ≡ sets arena.old (place h + 8) (growing last postings end) }
+fn put_growing(arena: &mut [u8], h: u32, d: Head)
+    requires { (place h + block_size ≤ length arena.old) × (d.end < 256) }
+    ensures { arena.new ≡ sets arena.old (place h + 8) (growing d.last d.postings d.end) }
 {
     let at = place_of(h);
-    basics::write_word(arena, at + 8, last);
-    basics::write_word(arena, at + 12, postings);
-    arena[at + 16] = end as u8;
+    basics::write_word(arena, at + 8, d.last);
+    basics::write_word(arena, at + 12, d.postings);
+    arena[at + 16] = d.end as u8;
 }
 
 // The same with the tail, which a posting in a new block changes too.
-fn put_changing(arena: &mut [u8], h: u32, tail: u32, last: u32, postings: u32, end: usize)
-    requires { (place h + block_size ≤ length arena.old) × (end < 256) }
-    ensures { arena.new ≡ sets arena.old (place h + 4) (changing tail last postings end) }
+fn put_changing(arena: &mut [u8], h: u32, d: Head)
+    requires { (place h + block_size ≤ length arena.old) × (d.end < 256) }
+    ensures { arena.new ≡ sets arena.old (place h + 4) (changing d.tail d.last d.postings d.end) }
 {
-    basics::write_word(arena, place_of(h) + 4, tail);
-    put_growing(arena, h, last, postings, end);
+    basics::write_word(arena, place_of(h) + 4, d.tail);
+    put_growing(arena, h, d);
 }
 
-// Writes the first posting of a block, whose postings begin at `start`, and returns the offset past it. The only place that takes a b-gap.
-fn put_first(arena: &mut [u8], b: u32, start: usize, gap: BGap, count: u32) -> usize
-    requires { (0 < gap.0) × (start + length (code gap.0 count) ≤ block_size) × (place b + block_size ≤ length arena.old) }
-    ensures { (result ≡ start + length (code gap.0 count)) × (arena.new ≡ sets arena.old (place b + start) (code gap.0 count)) }
+// Writes a posting at an offset of block b, and returns the offset past it. The type of its gap says from which report it counts: a block's first
+// posting takes a b-gap, and only that.
+fn put_gap<G: Gap>(arena: &mut [u8], b: u32, offset: usize, gap: G, count: u32) -> usize
+    requires { (0 < G.distance gap) × (offset + length (code (G.distance gap) count) ≤ block_size) × (place b + block_size ≤ length arena.old) }
+    ensures { (result ≡ offset + length (code (G.distance gap) count)) × (arena.new ≡ sets arena.old (place b + offset) (code (G.distance gap) count)) }
 {
     let at = place_of(b);
-    postings::put_posting(arena, at + start, gap.0, count) - at
-}
-
-// Writes a posting behind others at the write offset, and returns the offset past it.
-fn put_next(arena: &mut [u8], b: u32, end: usize, gap: DGap, count: u32) -> usize
-    requires { (0 < gap.0) × (end + length (code gap.0 count) ≤ block_size) × (place b + block_size ≤ length arena.old) }
-    ensures { (result ≡ end + length (code gap.0 count)) × (arena.new ≡ sets arena.old (place b + end) (code gap.0 count)) }
-{
-    let at = place_of(b);
-    postings::put_posting(arena, at + end, gap.0, count) - at
-}
-
-// Writes the bytes of a folded term from `at` on.
-fn put_name(arena: &mut [u8], at: usize, name: &[u8])
-    requires { at + length name.now ≤ length arena.old }
-    ensures { arena.new ≡ sets arena.old at name.now }
-{
-    let mut i: usize = 0;
-    while i < name.len() {
-        arena[at + i] = name[i];
-        i += 1;
-    }
+    postings::put_posting(arena, at + offset, gap.steps(), count) - at
 }
 
 // A new term: its head at block b, with its first posting. A head's first gap counts from 0.
@@ -141,25 +117,30 @@ pub fn open_head(arena: &mut [u8], b: u32, name: &[u8], number: u32, count: u32)
     ensures { arena.new ≡ open_head arena.old b name.now number count }
 {
     let at = place_of(b);
-    let n = name.len();
+    let length = name.len();
     clear(arena, b);
     basics::write_word(arena, at, number);
-    arena[at + 17] = n as u8;
-    put_name(arena, at + 18, name);
-    let end = put_first(arena, b, 18 + n, BGap::from_first(0, number), count);
-    put_changing(arena, b, b, number, 1, end);
+    arena[at + 17] = length as u8;
+    basics::write_bytes(arena, at + 18, name);
+    let end = put_gap(arena, b, 18 + length, BGap::between(0, number), count);
+    let d = Head {
+        tail: b,
+        last: number,
+        postings: 1,
+        end,
+        length,
+    };
+    put_changing(arena, b, d);
 }
 
 // Whether a posting fits by byte 63 of the tail with its d-gap. A code has at most 10 bytes, so that its length matters only near the block's end.
+#[tactic(auto, using(crate::proofs::Writes::fitting), unfolding(crate::specs::Writes::fits))]
 pub fn fits_in(d: Head, number: u32, count: u32) -> bool
     requires { (d.last < number) × (d.end ≤ block_size) }
     ensures { result ≡ fits d number count }
 {
-    if d.end <= 54 {
-        return true;
-    }
-    let gap = DGap::from_last(d.last, number);
-    d.end + postings::posting_length(gap.0, count) <= 64
+    let gap = DGap::between(d.last, number);
+    d.end <= 54 || d.end + postings::posting_length(gap.steps(), count) <= 64
 }
 
 // A posting at the write offset of the tail. The tail stays, so that field of the head is not written again.
@@ -167,8 +148,14 @@ pub fn add_to(arena: &mut [u8], h: u32, d: Head, number: u32, count: u32)
     requires { Appends arena.old h d number × InTail arena.old h d × (fits d number count ≡ true) }
     ensures { arena.new ≡ add_to arena.old h d number count }
 {
-    let end = put_next(arena, d.tail, d.end, DGap::from_last(d.last, number), count);
-    put_growing(arena, h, number, d.postings + 1, end);
+    let end = put_gap(arena, d.tail, d.end, DGap::between(d.last, number), count);
+    let grown = Head {
+        last: number,
+        postings: d.postings + 1,
+        end,
+        ..d
+    };
+    put_growing(arena, h, grown);
 }
 
 // Block b as the new tail: the old tail leads to it, and its first posting counts from the old tail's first number.
@@ -176,13 +163,19 @@ pub fn join_to(arena: &mut [u8], h: u32, d: Head, b: u32, number: u32, count: u3
     requires { Appends arena.old h d number × (place b + block_size ≤ length arena.old) × (link_of arena.old d.tail < number) }
     ensures { arena.new ≡ join_to arena.old h d b number count }
 {
-    let tail = d.tail;
-    let gap = BGap::from_first(link_of(arena, tail), number);
-    basics::write_word(arena, place_of(tail), b);
+    let gap = BGap::between(link_of(arena, d.tail), number);
+    basics::write_word(arena, place_of(d.tail), b);
     clear(arena, b);
     basics::write_word(arena, place_of(b), number);
-    let end = put_first(arena, b, 4, gap, count);
-    put_changing(arena, h, b, number, d.postings + 1, end);
+    let end = put_gap(arena, b, 4, gap, count);
+    let grown = Head {
+        tail: b,
+        last: number,
+        postings: d.postings + 1,
+        end,
+        ..d
+    };
+    put_changing(arena, h, grown);
 }
 
 // One more posting of the term with head h: in its tail, or in block b where it does not fit. Says whether it fitted.
@@ -191,12 +184,13 @@ pub fn append_posting(arena: &mut [u8], h: u32, b: u32, number: u32, count: u32)
     ensures { (result ≡ fits (head_of arena.old h) number count) × (arena.new ≡ append arena.old h b number count) }
 {
     let d = head_of(arena, h);
-    if fits_in(d, number, count) {
+    let fitted = fits_in(d, number, count);
+    if fitted {
         add_to(arena, h, d, number, count);
-        return true;
+    } else {
+        join_to(arena, h, d, b, number, count);
     }
-    join_to(arena, h, d, b, number, count);
-    false
+    fitted
 }
 
 // The twelve marked cases of document 01 hold under the definitions.
