@@ -6,12 +6,11 @@ ghost use Rattle.std.specs.Prelude.{IfOk, ◌≡◌, false, ◌+◌, ◌<◌, �
 ghost use Rattle.terms.specs.Terms.{max_term};
 ghost use Rattle.frames.specs.Frames.{count_bytes, fields, passes_end, bad_term};
 
-use chains::Step;
 use counters::Counters;
-use frames::{Cursor, Query, Report};
+use frames::{Cursor, Kind, Query};
 use ingest::ReportAnswer;
-use postings::Decoded;
 use query::ListAnswer;
+use refusals::Refusal;
 use std::io::{self, Read};
 
 fn print(rt: &impl Print, text: &str) -> io::Result<()> {
@@ -24,7 +23,7 @@ fn print_number(rt: &impl Print, n: u64) -> io::Result<()> {
 }
 
 fn print_word(rt: &impl Print, n: u32) -> io::Result<()> {
-    print_number(rt, n as u64)
+    print_number(rt, u64::from(n))
 }
 
 // A colon and a count.
@@ -83,15 +82,12 @@ fn code(rt: &impl Print, payload: &[u8]) -> io::Result<()> {
 fn decode(rt: &impl Print, payload: &[u8]) -> io::Result<()> {
     print(rt, "decode")?;
     print_bytes(rt, payload)?;
-    match postings::decode(payload) {
-        Decoded::Rejected => print(rt, " refused")?,
-        Decoded::Posting { gap, count, length } => {
-            print_word(rt, gap)?;
-            print_word(rt, count)?;
-            print_number(rt, length as u64)?;
-        }
-    }
-    Ok(())
+    let Some(d) = postings::decode(payload) else {
+        return print(rt, " refused");
+    };
+    print_word(rt, d.gap)?;
+    print_word(rt, d.count)?;
+    print_number(rt, d.length as u64)
 }
 
 // Sort 4: the folded term and its hash.
@@ -99,8 +95,7 @@ fn fold(rt: &impl Print, payload: &[u8]) -> io::Result<()> {
     print(rt, "term")?;
     print_bytes(rt, payload)?;
     if !terms::is_term(payload) {
-        print(rt, " refused")?;
-        return Ok(());
+        return print(rt, " refused");
     }
     let hash = print_folded(rt, payload)?;
     print_hash(rt, hash)
@@ -133,65 +128,50 @@ fn print_fields(rt: &impl Print, frame: &[u8], from: usize, tail: usize) -> io::
     Ok(())
 }
 
-fn print_refusal(rt: &impl Print, n: u8) -> io::Result<()> {
+fn print_refusal(rt: &impl Print, refusal: Refusal) -> io::Result<()> {
     print(rt, " refused")?;
-    print_number(rt, n as u64)
+    print_number(rt, u64::from(u8::from(refusal)))
 }
 
 fn report_frame(rt: &impl Print, frame: &[u8]) -> io::Result<()> {
     match frames::check_report(frame) {
-        Report::Refused(n) => print_refusal(rt, n)?,
-        Report::Lines(_) => {
+        Err(refusal) => print_refusal(rt, refusal),
+        Ok(_) => {
             print(rt, " lines")?;
-            print_fields(rt, frame, 4, 4)?;
+            print_fields(rt, frame, 4, 4)
         }
     }
-    Ok(())
 }
 
-// The start and the terms of a sound query.
-fn print_query(rt: &impl Print, frame: &[u8], start: u32, first: Cursor) -> io::Result<()>
-    requires { (passes_end 0 frame.now first.at ≡ false) × (bad_term frame.now (fields 0 frame.now first.at) ≡ false) }
+// The start and the terms of a query, as the check of its frame gives them.
+fn query_frame(rt: &impl Print, frame: &[u8], checked: Result<Query, Refusal>) -> io::Result<()>
+    requires { IfOk checked (λ q. (passes_end 0 frame.now q.terms.at ≡ false) × (bad_term frame.now (fields 0 frame.now q.terms.at) ≡ false)) }
 {
-    print(rt, " start")?;
-    print_word(rt, start)?;
-    print(rt, " terms")?;
-    print_fields(rt, frame, first.at, 0)
-}
-
-fn one_frame(rt: &impl Print, frame: &[u8]) -> io::Result<()> {
-    match frames::check_one(frame) {
-        Query::Refused(n) => print_refusal(rt, n)?,
-        Query::Terms { start, terms } => print_query(rt, frame, start, terms)?,
+    match checked {
+        Err(refusal) => print_refusal(rt, refusal),
+        Ok(query) => {
+            print(rt, " start")?;
+            print_word(rt, query.start)?;
+            print(rt, " terms")?;
+            print_fields(rt, frame, query.terms.at, 0)
+        }
     }
-    Ok(())
-}
-
-fn all_frame(rt: &impl Print, frame: &[u8]) -> io::Result<()> {
-    match frames::check_all(frame) {
-        Query::Refused(n) => print_refusal(rt, n)?,
-        Query::Terms { start, terms } => print_query(rt, frame, start, terms)?,
-    }
-    Ok(())
 }
 
 // Sort 5: a frame as the call of its kind reads it.
 fn frame(rt: &impl Print, payload: &[u8]) -> io::Result<()> {
-    if payload.len() == 0 {
+    let Some((kind, bytes)) = payload.split_first() else {
         return Ok(());
-    }
-    let kind = payload[0];
-    let bytes = &payload[1..];
+    };
     print(rt, "frame")?;
-    print_number(rt, basics::wide(kind) as u64)?;
+    print_number(rt, u64::from(*kind))?;
     print_bytes(rt, bytes)?;
-    match kind {
-        1 => report_frame(rt, bytes)?,
-        2 => one_frame(rt, bytes)?,
-        3 => all_frame(rt, bytes)?,
-        _ => print(rt, " unknown")?,
+    match Kind::try_from(*kind) {
+        Ok(Kind::Report) => report_frame(rt, bytes),
+        Ok(Kind::One) => query_frame(rt, bytes, frames::check_one(bytes)),
+        Ok(Kind::All) => query_frame(rt, bytes, frames::check_all(bytes)),
+        Err(_) => print(rt, " unknown"),
     }
-    Ok(())
 }
 
 // One posting more in the chain whose head is block 0, in an arena of 24 blocks. Returns the blocks used; nothing is written where the head is
@@ -203,17 +183,8 @@ fn put_posting(arena: &mut [u8], used: u32, number: u32, count: u32) -> u32
     if chains::is_bad_head(d, 24, 0) {
         return used;
     }
-    if 24 <= used {
-        return used;
-    }
     let first = blocks::link_of(arena, d.tail);
-    if number <= d.last {
-        return used;
-    }
-    if number <= first {
-        return used;
-    }
-    if d.postings == 4294967295 {
+    if 24 <= used || number <= d.last || number <= first || d.postings == u32::MAX {
         return used;
     }
     if blocks::append_posting(arena, 0, used, number, count) {
@@ -223,17 +194,15 @@ fn put_posting(arena: &mut [u8], used: u32, number: u32, count: u32) -> u32
     }
 }
 
-// The postings from `from` on, eight bytes each.
-fn put_postings(arena: &mut [u8], payload: &[u8], from: usize) -> u32
-    requires { (1536 ≤ length arena.old) × (from ≤ length payload.now) }
+// The postings, eight bytes each.
+fn put_postings(arena: &mut [u8], postings: &[u8]) -> u32
+    requires { 1536 ≤ length arena.old }
 {
     let mut used: u32 = 1;
-    let mut at = from;
-    while at + 8 <= payload.len() {
-        let number = basics::read_word(payload, at);
-        let count = basics::read_word(payload, at + 4);
+    for posting in postings.chunks_exact(8) {
+        let number = basics::read_word(posting, 0);
+        let count = basics::read_word(posting, 4);
         used = put_posting(arena, used, number, count);
-        at += 8;
     }
     used
 }
@@ -247,23 +216,13 @@ fn print_chain(rt: &impl Print, arena: &[u8], used: u32) -> io::Result<()>
     let mut place = chains::at_head(d, used, 0);
     while place.number < reports {
         match chains::read_next(arena, used, reports, place) {
-            Step::Posting {
-                number,
-                count,
-                next,
-            } => {
-                print_word(rt, number)?;
-                print_count(rt, count)?;
-                place = next;
+            Ok(Some(step)) => {
+                print_word(rt, step.number)?;
+                print_count(rt, step.count)?;
+                place = step.next;
             }
-            Step::End => {
-                print(rt, " end")?;
-                return Ok(());
-            }
-            Step::Damaged => {
-                print(rt, " damaged")?;
-                return Ok(());
-            }
+            Ok(None) => return print(rt, " end"),
+            Err(_) => return print(rt, " damaged"),
         }
     }
     Ok(())
@@ -285,7 +244,7 @@ fn chain(rt: &impl Print, payload: &[u8]) -> io::Result<()> {
     if payload.len() == 0 {
         return Ok(());
     }
-    let from = 1 + basics::wide(payload[0]);
+    let from = 1 + usize::from(payload[0]);
     if payload.len() < from + 8 {
         return Ok(());
     }
@@ -304,7 +263,7 @@ fn chain(rt: &impl Print, payload: &[u8]) -> io::Result<()> {
         number,
         basics::read_word(payload, from + 4),
     );
-    let used = put_postings(&mut arena, payload, from + 8);
+    let used = put_postings(&mut arena, &payload[from + 8..]);
     print(rt, "blocks")?;
     print_bytes(rt, term)?;
     if 0 < used {
@@ -324,93 +283,41 @@ fn read_pair(s: &[u8], at: usize) -> usize
     requires { at + 2 ≤ length s.now }
     ensures { result < 65536 }
 {
-    basics::wide(s[at]) * 256 + basics::wide(s[at + 1])
+    usize::from(s[at]) * 256 + usize::from(s[at + 1])
 }
 
 fn print_refused(rt: &impl Print, refusal: u8) -> io::Result<()> {
-    print(rt, " E")?;
-    print_number(rt, refusal as u64)
+    print!(rt; " E {refusal}")
 }
 
 fn print_taken(rt: &impl Print, answer: ReportAnswer) -> io::Result<()> {
     if answer.refusal != 0 {
-        print_refused(rt, answer.refusal)?;
-        return Ok(());
+        return print_refused(rt, answer.refusal);
     }
     print(rt, " R")?;
     print_word(rt, answer.number)
 }
 
-// So many numbers, with their counts where they are asked for.
-fn print_places(
-    rt: &impl Print,
-    numbers: &[u32],
-    counts: &[u32],
-    filled: usize,
-    counted: bool,
-) -> io::Result<()>
-    requires { (filled ≤ length numbers.now) × (filled ≤ length counts.now) }
-{
-    for i in 0..filled {
-        print_word(rt, numbers[i])?;
-        if counted {
-            print_count(rt, counts[i])?;
-        }
-    }
-    Ok(())
-}
-
+// The places that were filled, with their counts where there are any.
 fn print_listed(
     rt: &impl Print,
     answer: ListAnswer,
     numbers: &[u32],
-    counts: &[u32],
-    counted: bool,
+    counts: Option<&[u32]>,
 ) -> io::Result<()> {
     if answer.refusal != 0 {
-        print_refused(rt, answer.refusal)?;
-        return Ok(());
+        return print_refused(rt, answer.refusal);
     }
     print(rt, " Q")?;
     print_word(rt, answer.filled)?;
-    if answer.more {
-        print(rt, " +")?;
-    } else {
-        print(rt, " -")?;
+    print(rt, if answer.more { " +" } else { " -" })?;
+    for (i, number) in numbers.iter().take(answer.filled as usize).enumerate() {
+        print_word(rt, *number)?;
+        if let Some(count) = counts.and_then(|c| c.get(i)) {
+            print_count(rt, *count)?;
+        }
     }
-    let filled = answer.filled as usize;
-    if numbers.len() < filled {
-        return Ok(());
-    }
-    if counts.len() < filled {
-        return Ok(());
-    }
-    print_places(rt, numbers, counts, filled, counted)
-}
-
-fn list_one(
-    rt: &impl Print,
-    arena: &[u8],
-    table: &[u32],
-    k: Counters,
-    frame: &[u8],
-    numbers: &mut [u32],
-    counts: &mut [u32],
-) -> io::Result<()> {
-    let answer = query::list_one(arena, table, k, frame, numbers, counts);
-    print_listed(rt, answer, numbers, counts, true)
-}
-
-fn list_all(
-    rt: &impl Print,
-    arena: &[u8],
-    table: &[u32],
-    k: Counters,
-    frame: &[u8],
-    numbers: &mut [u32],
-) -> io::Result<()> {
-    let answer = query::list_all(arena, table, k, frame, numbers);
-    print_listed(rt, answer, numbers, numbers, false)
+    Ok(())
 }
 
 // The call of a kind; another kind is left out.
@@ -427,30 +334,25 @@ fn call(
 {
     let mut numbers = [0u32; 256];
     let mut counts = [0u32; 256];
-    match kind {
-        1 => {
+    let numbers = &mut numbers[..places];
+    let counts = &mut counts[..places];
+    match Kind::try_from(kind) {
+        Ok(Kind::Report) => {
             let taken = ingest::take_report(arena, table, k, frame);
             print_taken(rt, taken.answer)?;
-            Ok(taken.counters)
+            return Ok(taken.counters);
         }
-        2 => {
-            list_one(
-                rt,
-                arena,
-                table,
-                k,
-                frame,
-                &mut numbers[..places],
-                &mut counts[..places],
-            )?;
-            Ok(k)
+        Ok(Kind::One) => {
+            let answer = query::list_one(arena, table, k, frame, numbers, counts);
+            print_listed(rt, answer, numbers, Some(counts))?;
         }
-        3 => {
-            list_all(rt, arena, table, k, frame, &mut numbers[..places])?;
-            Ok(k)
+        Ok(Kind::All) => {
+            let answer = query::list_all(arena, table, k, frame, numbers);
+            print_listed(rt, answer, numbers, None)?;
         }
-        _ => Ok(k),
+        Err(_) => {}
     }
+    Ok(k)
 }
 
 // The calls from place 5 on: a null byte for a start, else the kind, two bytes of length and the frame.
@@ -533,11 +435,8 @@ fn calls(rt: &impl Print, payload: &[u8]) -> io::Result<()> {
     }
     let blocks = read_pair(payload, 0);
     let entries = read_pair(payload, 2);
-    let places = basics::wide(payload[4]);
-    if 24 < blocks {
-        return Ok(());
-    }
-    if 64 < entries {
+    let places = usize::from(payload[4]);
+    if 24 < blocks || 64 < entries {
         return Ok(());
     }
     print(rt, "calls")?;
@@ -573,7 +472,7 @@ fn answer_all(rt: &impl Print, s: &[u8]) -> io::Result<()> {
     let mut at: usize = 0;
     while at + 3 <= s.len() {
         let from = at + 3;
-        let to = from + basics::wide(s[at + 1]) * 256 + basics::wide(s[at + 2]);
+        let to = from + usize::from(s[at + 1]) * 256 + usize::from(s[at + 2]);
         if s.len() < to {
             return Ok(());
         }

@@ -14,12 +14,12 @@ loop-place-init g c = unfold at_head in rw c.at_head-place.ensures (omega arith)
 
 pub loop-place-smaller : goal.loop-place-smaller
 loop-place-smaller g c =
-    let t : Stepped c.args.arena.now c.args.used c.head_of-d.result.last c.loop-place.place c.in-Posting.number c.in-Posting.next
-    = step_follows _ _ _ _ (from-posting _ _ _ _ _ _ _ (sym c.read_next.ensures ∙ c.in-Posting.is)) in
+    let t : Stepped c.args.arena.now c.args.used c.head_of-d.result.last c.loop-place.place c.in-Ok-Some.step.number c.in-Ok-Some.step.next
+    = step_follows _ _ _ _ (from-posting _ _ _ _ _ _ _ (sym c.read_next.ensures ∙ c.in-Ok-Some.is)) in
     omega (arith, t.number, t.ascends, t.within)
 
 pub loop-place-preserved : goal.loop-place-preserved
 loop-place-preserved g c =
-    let t : Stepped c.args.arena.now c.args.used c.head_of-d.result.last c.loop-place.place c.in-Posting.number c.in-Posting.next
-    = step_follows _ _ _ _ (from-posting _ _ _ _ _ _ _ (sym c.read_next.ensures ∙ c.in-Posting.is)) in
+    let t : Stepped c.args.arena.now c.args.used c.head_of-d.result.last c.loop-place.place c.in-Ok-Some.step.number c.in-Ok-Some.step.next
+    = step_follows _ _ _ _ (from-posting _ _ _ _ _ _ _ (sym c.read_next.ensures ∙ c.in-Ok-Some.is)) in
     omega (arith, t.number, t.within)
