@@ -4,10 +4,10 @@
 
 ghost use Rattle.std.specs.Prelude.{IfOk, ◌≡◌, false, ◌+◌, ◌<◌, ◌≤◌, length};
 ghost use Rattle.terms.specs.Terms.{max_term};
-ghost use Rattle.frames.specs.Frames.{count_bytes, fields, passes_end, bad_term};
+ghost use Rattle.frames.specs.Frames.{first_term, terms, passes_end, bad_term};
 
 use counters::Counters;
-use frames::{Cursor, Kind, Query};
+use frames::{Cursors, Kind, Lines, MAX_LINES, Query};
 use ingest::ReportAnswer;
 use query::ListAnswer;
 use refusals::Refusal;
@@ -113,39 +113,41 @@ fn print_folded(rt: &impl Print, term: &[u8]) -> io::Result<u32>
     Ok(terms::fnv1a(name))
 }
 
-// The folded terms of a sound frame's fields, with their counts where they have one.
-fn print_fields(rt: &impl Print, frame: &[u8], from: usize, tail: usize) -> io::Result<()>
-    requires { (tail ≤ count_bytes) × (passes_end tail frame.now from ≡ false) × (bad_term frame.now (fields tail frame.now from) ≡ false) }
-{
-    let mut c = Cursor { at: from };
-    while c.at < frame.len() {
-        print_folded(rt, c.term(frame))?;
-        if tail == 4 {
-            print_count(rt, c.count(frame))?;
-        }
-        c = c.past(frame, tail);
-    }
-    Ok(())
-}
-
 fn print_refusal(rt: &impl Print, refusal: Refusal) -> io::Result<()> {
     print(rt, " refused")?;
     print_number(rt, u64::from(u8::from(refusal)))
 }
 
+// The folded terms of a sound report with their counts.
 fn report_frame(rt: &impl Print, frame: &[u8]) -> io::Result<()> {
-    match frames::check_report(frame) {
+    let mut names = [0u8; 4099];
+    let mut hashes = [0u32; MAX_LINES];
+    match Lines::read(frame, &mut names, &mut hashes) {
         Err(refusal) => print_refusal(rt, refusal),
-        Ok(_) => {
+        Ok(lines) => {
             print(rt, " lines")?;
-            print_fields(rt, frame, 4, 4)
+            for line in lines.iter() {
+                print_bytes(rt, line.name)?;
+                print_count(rt, line.count)?;
+            }
+            Ok(())
         }
     }
 }
 
+// The folded terms of a query, each of whose fields is a term.
+fn print_terms(rt: &impl Print, frame: &[u8]) -> io::Result<()>
+    requires { (passes_end 0 frame.now first_term ≡ false) × (bad_term frame.now (terms frame.now) ≡ false) }
+{
+    for c in Cursors::terms(frame) {
+        print_folded(rt, c.term(frame))?;
+    }
+    Ok(())
+}
+
 // The start and the terms of a query, as the check of its frame gives them.
 fn query_frame(rt: &impl Print, frame: &[u8], checked: Result<Query, Refusal>) -> io::Result<()>
-    requires { IfOk checked (λ q. (passes_end 0 frame.now q.terms.at ≡ false) × (bad_term frame.now (fields 0 frame.now q.terms.at) ≡ false)) }
+    requires { IfOk checked (λ q. (passes_end 0 frame.now first_term ≡ false) × (bad_term frame.now (terms frame.now) ≡ false)) }
 {
     match checked {
         Err(refusal) => print_refusal(rt, refusal),
@@ -153,7 +155,7 @@ fn query_frame(rt: &impl Print, frame: &[u8], checked: Result<Query, Refusal>) -
             print(rt, " start")?;
             print_word(rt, query.start)?;
             print(rt, " terms")?;
-            print_fields(rt, frame, query.terms.at, 0)
+            print_terms(rt, frame)
         }
     }
 }
