@@ -167,7 +167,7 @@ module _ {m₀ m : Memory} {marks : List Bool} (k : Lasts m₀ m marks) (l : Lin
         used = k.used;
         entries = k.entries;
         names = λ b w u z r.
-            add_named (k.names b w u (mark_old marks h d.tail k.long (mark_of b) z) r) h d n l.count (fine_tail m.arena m.counters h fine) e
+            add_named (k.names b w u (mark_old marks h d.tail k.long (mark_of b) z) r) h d n l.count (fine_tail m.arena m.counters h refl fine) e
             (λ q. mark_tail_lem marks h d.tail k.long (ap (λ (x : ℕ). get_or (mark_tail marks h d.tail) (mark_of x) false) q ∙ z));
       }
 
@@ -200,8 +200,8 @@ module _ {m₀ m : Memory} {marks : List Bool} (k : Lasts m₀ m marks) (l : Lin
   unfolding written marking
   lasts_at h true y e q = rw (at-damaged m.arena m.counters l.count h e) k
   lasts_at h false true e q =
-      rw (at-stays m.arena m.counters l.count h e q) (lasts_stays h (head_fine m.arena m.counters h (head_of m.arena h) e) q)
-  lasts_at h false false e q = rw (at_spills m.arena m.counters l.count h e q) (lasts_spills h)
+      rw (at-stays m.arena m.counters l.count h refl e q) (lasts_stays h (head_fine m.arena m.counters h (head_of m.arena h) e) q)
+  lasts_at h false false e q = rw (at_spills m.arena m.counters l.count h refl e q) (lasts_spills h)
 
   lasts_placed : (x : Result Found Refusal) → sought m.arena m.counters.used m.table l.term ≡ x
       → let p = placed m.arena m.counters l.count x in Lasts m₀ (written m n l p) (marking m.arena marks p)

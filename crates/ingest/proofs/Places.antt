@@ -65,28 +65,23 @@ fine_appends a k h d r u w = record {
   countable = omega (arith, w.postings, r.numbered);
 }
 
--- as the head stands, at the write offset of its tail
-pub fine_tail : (a : List ℕ) (k : Counters) (h : ℕ) → Fine a k h (head_of a h) → InTail a h (head_of a h)
-fine_tail a k h w = record { stands = refl; behind = omega (arith, w.good.past) }
-
--- judged, a head is refused as damaged or handed out
-pub head_told : (a : List ℕ) (k : Counters) (h : ℕ) {d : Head} (x : Bool) → d ≡ head_of a h → damaged_head a k h d ≡ x → HeadIs a k h (cond x (Err Damaged) (Ok d))
-head_told a k h true e q = (refl, rw (← e) q)
-head_told a k h false e q = (e, q)
+-- where it stands, at the write offset of its tail
+pub fine_tail : (a : List ℕ) (k : Counters) (h : ℕ) {d : Head} → d ≡ head_of a h → Fine a k h d → InTail a h d
+fine_tail a k h e w = record { stands = e; behind = omega (arith, w.good.past) }
 
 module _ (a : List ℕ) (k : Counters) (f h : ℕ) where
   pub at-damaged : damaged_head a k h (head_of a h) ≡ true → place_at a k f h ≡ Err Damaged
   unfolding place_at
   at-damaged e = rw e
 
-  module _ (e : damaged_head a k h (head_of a h) ≡ false) where
-    pub at-stays : fits (head_of a h) (next_number k) f ≡ true → place_at a k f h ≡ Ok (Stays h)
+  module _ {d : Head} (q : d ≡ head_of a h) (e : damaged_head a k h d ≡ false) where
+    pub at-stays : fits d (next_number k) f ≡ true → place_at a k f h ≡ Ok (Stays h)
     unfolding place_at
-    at-stays q = rw (e, q)
+    at-stays r = rw (← q, e, r)
 
-    pub at_spills : fits (head_of a h) (next_number k) f ≡ false → place_at a k f h ≡ Ok (Spills h)
+    pub at_spills : fits d (next_number k) f ≡ false → place_at a k f h ≡ Ok (Spills h)
     unfolding place_at
-    at_spills q = rw (e, q)
+    at_spills r = rw (← q, e, r)
 
 -- ---- what a search finds
 

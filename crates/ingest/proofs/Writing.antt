@@ -18,7 +18,8 @@ use Rattle.blocks.specs.Fields.{max_word, capacity}
 use Rattle.blocks.proofs.Capacity.{capacity_as}
 use Rattle.blocks.proofs.Writes.{length-open_head, length-add_to, length-join_to}
 use Rattle.refusals.specs.declared.Refusal.{Refusal}
-use Rattle.lookup.specs.declared.Found.TheVariants.{At}
+use Rattle.lookup.specs.declared.Found.{Found}
+use Rattle.lookup.specs.declared.Found.TheVariants.{At, Unknown}
 use Rattle.lookup.specs.Lookup.{search as sought}
 use Rattle.lookup.proofs.Search.{length-enter}
 use Rattle.counters.specs.Counters.{Memory, max_terms}
@@ -129,10 +130,23 @@ module _ (m : Memory) (n : ℕ) (l : Line) where
     unfolding plan_of any is_damaged total terms_for blocks_for
     one_spills u = one_written (Ok (Spills h)) (plan_none m (plan_of (Ok (Spills h) ∷ [])) refl (omega arith) (omega arith))
 
--- the line of a term that is found goes where its head says
-pub known_place : (m : Memory) (l : Line) (h : ℕ) → sought m.arena m.counters.used m.table l.term ≡ Ok (At h) → place_of m l ≡ place_at m.arena m.counters l.count h
-unfolding place_of placed
-known_place m l h e = rw e
+-- a line goes where the search for its term leads, that of a known term where its head says
+module _ (m : Memory) (l : Line) where
+  pub sought_place : (x : Result Found Refusal) → sought m.arena m.counters.used m.table l.term ≡ x → place_of m l ≡ placed m.arena m.counters l.count x
+  unfolding place_of
+  sought_place x e = rw e
+
+  pub known_place : (h : ℕ) → sought m.arena m.counters.used m.table l.term ≡ Ok (At h) → place_of m l ≡ place_at m.arena m.counters l.count h
+  unfolding placed
+  known_place h e = sought_place (Ok (At h)) e
+
+  pub new_place : (s : ℕ) → sought m.arena m.counters.used m.table l.term ≡ Ok (Unknown s) → place_of m l ≡ Ok (New s)
+  unfolding placed
+  new_place s e = sought_place (Ok (Unknown s)) e
+
+  pub refused_place : (r : Refusal) → sought m.arena m.counters.used m.table l.term ≡ Err r → place_of m l ≡ Err r
+  unfolding placed
+  refused_place r e = sought_place (Err r) e
 
 -- ---- one line after another
 

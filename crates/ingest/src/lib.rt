@@ -98,6 +98,7 @@ fn sound_head(arena: &[u8], k: Counters, h: u32) -> Result<Head, Refusal>
     Ok(d)
 }
 
+#[tactic(auto, unfolding(crate::specs::Report::place_at))]
 fn place_at(arena: &[u8], k: Counters, count: u32, h: u32) -> Result<Place, Refusal>
     requires { Room arena.now k × (h < k.used) }
     ensures { result ≡ place_at arena.now k count h }
@@ -110,6 +111,7 @@ fn place_at(arena: &[u8], k: Counters, count: u32, h: u32) -> Result<Place, Refu
 }
 
 // The place of a line, by what the search for its term found.
+#[tactic(auto, unfolding(crate::specs::Report::placed))]
 fn place_found(arena: &[u8], k: Counters, found: Found, count: u32) -> Result<Place, Refusal>
     requires { Room arena.now k × Below k.used found }
     ensures { result ≡ placed arena.now k count (Ok found) }
@@ -124,6 +126,7 @@ fn place_found(arena: &[u8], k: Counters, found: Found, count: u32) -> Result<Pl
 
 impl Plan {
     // The plan with a line more.
+    #[tactic(auto, unfolding(crate::specs::Needs::with_place, crate::specs::Report::terms_for, crate::specs::Report::blocks_for))]
     fn with(self, p: Place) -> Plan
         requires { (self.terms < max_word) × (self.blocks < max_word) }
         ensures { result ≡ with_place self p }
@@ -147,8 +150,8 @@ impl Plan {
 // line's turn where the term was found right there, else it becomes 0, which no entry that leads to a head is.
 fn plan_lines(arena: &[u8], table: &[u32], k: Counters, lines: Lines, kept: &mut [u32]) -> Result<Plan, Refusal>
     requires { Room arena.now k × (max_lines ≤ length kept.old) }
-    ensures plan { Plans (lines_plan (memory arena.now table.now k) (report_lines lines.frame.now)) result }
-    ensures kept { OnOk result (Kept (memory arena.now table.now k) lines.frame.now kept.new) }
+    ensures plan { Plans (lines_plan (memory arena.now table.now k) (report_lines lines.entry.frame.now)) result }
+    ensures kept { OnOk result (Kept (memory arena.now table.now k) lines.entry.frame.now kept.new) }
 {
     let mut lengths = [0u8; 820];
     lookup::first_entries(table, lines.hashes, lines.count, kept);
@@ -167,6 +170,7 @@ fn plan_lines(arena: &[u8], table: &[u32], k: Counters, lines: Lines, kept: &mut
 }
 
 // Refusals 11 and 12 for what the lines need.
+#[tactic(auto, unfolding(crate::specs::Report::plan_rows, frames::specs::Refusals::first_of))]
 fn has_room(arena: &[u8], table: &[u32], k: Counters, plan: Plan) -> Result<(), Refusal>
     requires { Held arena.now table.now k × (plan.terms ≤ max_body) }
     ensures { refused_under result ≡ first_of (plan_rows (memory arena.now table.now k) (needed plan)) }
@@ -184,6 +188,7 @@ fn has_room(arena: &[u8], table: &[u32], k: Counters, plan: Plan) -> Result<(), 
 
 // Marks a tail that a posting was put into, unless it is the chain's head: in a damaged arena it may be another term's head, which may now hold
 // another name.
+#[tactic(auto, unfolding(crate::specs::Kept::mark_tail))]
 fn mark_tail(marks: &mut [bool; 1024], h: u32, tail: u32)
     ensures { marks.new ≡ mark_tail marks.old h tail }
 {
@@ -296,7 +301,7 @@ fn write_lines(
     kept: &[u32],
 ) -> Result<Counters, Stopped>
     requires { Held arena.old table.old k × (max_lines ≤ length kept.now) × Kept (memory arena.old table.old k) lines.frame.now kept.now }
-    ensures { wrote arena.new table.new result ≡ write_lines (memory arena.old table.old k) (k.reports + 1) (report_lines lines.frame.now) }
+    ensures { wrote arena.new table.new result ≡ write_lines (memory arena.old table.old k) (k.reports + 1) (report_lines lines.entry.frame.now) }
 {
     let mut marks = [false; 1024];
     let mut left = k;
@@ -315,8 +320,8 @@ fn write_lines(
 // Refusals 8 to 12 of a sound frame. Where none holds, what its lines keep is in `kept`.
 fn judge_report(arena: &[u8], table: &[u32], k: Counters, lines: Lines, kept: &mut [u32]) -> Result<(), Refusal>
     requires { max_lines ≤ length kept.old }
-    ensures refused { refused_under result ≡ call_refusal (memory arena.now table.now k) lines.frame.now }
-    ensures kept { OnOk result (Kept (memory arena.now table.now k) lines.frame.now kept.new) }
+    ensures refused { refused_under result ≡ call_refusal (memory arena.now table.now k) lines.entry.frame.now }
+    ensures kept { OnOk result (Kept (memory arena.now table.now k) lines.entry.frame.now kept.new) }
 {
     if counters::are_wrong(arena, table, k) {
         return Err(Refusal::WrongCounters);

@@ -3,10 +3,6 @@ use mathlib.Core.Path.{sym, ◌∙◌}
 use Rattle.blocks.proofs.Capacity.{block_inside}
 use Rattle.chains.proofs.Laws.{head_good}
 use Rattle.ingest.proofs.is_damaged.Goals as goal
-use Rattle.ingest.proofs.Plans.{planned_none}
-use Rattle.ingest.proofs.Writing.{wrote_none}
-use Rattle.ingest.proofs.Keeping.{keeps-none}
-use Rattle.ingest.proofs.Calls.{answers}
 
 pub link_of-first-requires : goal.link_of-first-requires
 link_of-first-requires c =

@@ -1,0 +1,7 @@
+-- The terms held and those of one report stay far below 32 bits.
+use native.Mathlib.Omega.{arith}
+use Rattle.counters.proofs.Laws.{max_terms_small}
+use Rattle.ingest.proofs.has_room.Goals as goal
+
+pub overflow_add-k : goal.overflow_add-k
+overflow_add-k c = omega (arith, max_terms_small c.args.table.now, c.requires.0.few, c.requires.1)
