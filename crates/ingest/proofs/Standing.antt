@@ -2,16 +2,33 @@
 -- Assumes nothing.
 use mathlib.Core.Path.{◌≡◌, refl, sym, ap, ◌∙◌}
 use mathlib.Core.List.{List, [], ◌∷◌, map}
-use Prim.Native.Nat.{ℕ, ◌+◌, ◌≤◌, ◌<◌}
+use Prim.Native.Nat.{ℕ, zero, suc, ◌+◌, ◌≤◌, ◌<◌}
+use native.Mathlib.Numerals.{add-one}
 use native.Mathlib.Omega.{arith}
-use lib.ListN.{length, get_or, take, drop, length-take, length-drop, length-map}
-use Rattle.std.proofs.lemmas.List.{get_or-take, get_or-map}
+use lib.ListN.{length, get_or, drop, length-drop, length-map}
+use denote.Ref.{Bor}
+use Rattle.std.proofs.Common.{Iter, Option, Some, None, subst}
+use Rattle.std.specs.Iterator.{Yields}
+use Rattle.std.specs.List.{zip}
+use Rattle.core.specs.declared.iter.adapters.Zip.{Zip}
+use Rattle.std.specs.Iterator.Adapters.{zip_first, zip_second}
+use Rattle.std.specs.Slice.Iter.{iter_rest}
+use Rattle.std.proofs.iter.Yields.{fronts}
+use Rattle.std.proofs.lemmas.Iterator.{YieldsList, YieldsList-from_slice, YieldsList-from_zip, zips}
+use Rattle.std.proofs.lemmas.Iterator.Consumers.{YieldsList-turn, YieldsList-end}
+use Rattle.ingest.specs.declared.Lines.{Lines}
+use Rattle.std.proofs.lemmas.List.{get_or-map}
+use Rattle.std.proofs.lemmas.Slice.Zip.{length-zip}
 use Rattle.basics.proofs.Cases.{by-lt}
-use Rattle.basics.proofs.Parts.{rest_here, rest-next}
+use Rattle.basics.proofs.Parts.{rest_here, rest-next, get_or-inside}
 use Rattle.terms.specs.Terms.{fnv1a}
 use Rattle.frames.specs.Frames.{Line, count_bytes, first_line, past_field, Field, fields, lines, line_at, folded_at, report_lines, report_refusal}
 use Rattle.frames.specs.Read.{hashes_of}
 use Rattle.frames.proofs.Fields.{field_term, fields_end, fields_more}
+use Rattle.frames.specs.declared.Cursor.{Cursor}
+use Rattle.frames.specs.declared.Cursors.{Cursors}
+use Rattle.frames.specs.Walk.{Goes, from_first}
+use Rattle.frames.proofs.Walk.{yields-fields}
 use Rattle.frames.proofs.Laws.{Sound, sound_field, sound-on, sound-lines}
 
 -- the lines from the n-th on
@@ -65,19 +82,90 @@ module _ {f : List ℕ} {n at : ℕ} (s : Stands f n at) (h : n < length (lines 
   pub stands_term : Field 0 f at
   stands_term = field_term count_bytes f at stands_field
 
--- ---- hashes of lines
+-- the n-th line stands where the list of lines says
+pub stands_nth : (f : List ℕ) → report_refusal f ≡ 0 → (n : ℕ) → n < length (lines f) → Stands f n (get_or (lines f) n 0)
+stands_nth f z zero h = let s = stands-first f z in rw (stands_here s h) s
+stands_nth f z (suc n) h =
+    let l : n < length (lines f) = omega arith in
+    let s : Stands f (suc n) (past_field count_bytes f (get_or (lines f) n 0)) = rw add-one at (stands_on (stands_nth f z n l) l) in
+    rw (stands_here s h) s
 
-module _ (f hashes : List ℕ) {count : ℕ} (all : count ≡ length (lines f)) (e : take count hashes ≡ hashes_of f (lines f)) where
-  -- there is one for each line
-  pub hashes-enough : count ≤ length hashes
-  unfolding hashes_of
-  hashes-enough = omega (arith, simp (length-take, length-map) at (ap length e))
+-- ---- the line in hand, when lines go along with their hashes
 
-  pub hash_nth : (n at : ℕ) → Stands f n at → n < count → get_or hashes n 0 ≡ fnv1a (folded_at f at)
-  unfolding hashes_of
-  hash_nth n at s h =
-      let here = stands_here s (omega arith) in
-      sym (get_or-take count hashes n 0 h)
-      ∙ ap (λ (hs : List ℕ). get_or hs n 0) e
-      ∙ get_or-map (λ (i : ℕ). fnv1a (folded_at f i)) (lines f) n 0 0 (omega arith)
-      ∙ ap (λ (i : ℕ). fnv1a (folded_at f i)) here
+-- a pair of two lists that go together
+pub zip_nth : {A B : Type 0} (xs : List A) (ys : List B) (n : ℕ) {x : A} {y : B} → n < length (zip xs ys) → (x, y) ≡ get_or (zip xs ys) n (x, y)
+    → (n < length xs) × (n < length ys) × (x ≡ get_or xs n x) × (y ≡ get_or ys n y)
+zip_nth [] ys n h e = absurd (omega arith)
+zip_nth (x ∷ xs) [] n h e = absurd (omega arith)
+zip_nth (x ∷ xs) (y ∷ ys) zero h e = (omega arith, omega arith, ap (λ p. p.0) e, ap (λ p. p.1) e)
+zip_nth (x ∷ xs) (y ∷ ys) (suc n) h e =
+    let r = zip_nth xs ys n (omega arith) e in
+    (omega (arith, r.0), omega (arith, r.1), r.2, r.3)
+
+-- the n-th line is the one at this offset, and this is its hash
+pub record InHand (f : List ℕ) (n at hash : ℕ) : Type 0 where
+  pub counted : n < length (lines f)
+  pub stands : Stands f n at
+  pub hashed : hash ≡ fnv1a (folded_at f at)
+
+pub in_hand : (f hashes : List ℕ) → report_refusal f ≡ 0 → hashes ≡ hashes_of f (lines f) → (n : ℕ) {at hash : ℕ}
+    → n < length (zip (lines f) hashes) → (at, hash) ≡ get_or (zip (lines f) hashes) n (at, hash) → InHand f n at hash
+unfolding hashes_of
+in_hand f hashes z e n {at} {hash} h q =
+    let p = zip_nth (lines f) hashes n h q in
+    let here : at ≡ get_or (lines f) n 0 = p.2 ∙ get_or-inside (lines f) n at 0 p.0 in
+    record {
+      counted = p.0;
+      stands = rw here (stands_nth f z n p.0);
+      hashed = p.3
+      ∙ ap (λ (hs : List ℕ). get_or hs n hash) e
+      ∙ get_or-map (λ (i : ℕ). fnv1a (folded_at f i)) (lines f) n 0 hash p.0
+      ∙ ap (λ (i : ℕ). fnv1a (folded_at f i)) (sym here);
+    }
+
+-- the lists go together to the end
+pub zipped_long : (f hashes : List ℕ) → hashes ≡ hashes_of f (lines f) → length (zip (lines f) hashes) ≡ length (lines f)
+unfolding hashes_of
+zipped_long f hashes e = omega (arith, length-zip (lines f) hashes, simp length-map at (ap length e))
+
+-- ---- going over the lines along with their hashes, and with what is kept for each
+
+lines_yield : {s : Cursors} (frame : Bor (List ℕ)) → s ≡ from_first first_line count_bytes frame → YieldsList Goes (λ c. c.at) s (lines frame.now)
+lines_yield {s} frame e =
+    subst (λ (t : Cursors). YieldsList Goes (λ c. c.at) t (lines frame.now)) (sym e) (yields-fields (from_first first_line count_bytes frame))
+
+abbrev line_hash : Cursor × Bor ℕ → ℕ × ℕ
+line_hash p = (p.0.at, p.1.now)
+
+abbrev hashes_go : Zip Cursors (Iter ℕ) → Option (Cursor × Bor ℕ) → Zip Cursors (Iter ℕ) → Type 0
+hashes_go = zips Goes fronts
+
+abbrev entries_go : Zip (Zip Cursors (Iter ℕ)) (Iter ℕ) → Option ((Cursor × Bor ℕ) × Bor ℕ) → Zip (Zip Cursors (Iter ℕ)) (Iter ℕ) → Type 0
+entries_go = zips hashes_go fronts
+
+-- all that comes from here on
+abbrev pub Along : Lines → List ℕ → Zip (Zip Cursors (Iter ℕ)) (Iter ℕ) → Type 0
+Along l kept s = YieldsList entries_go (λ p. (line_hash p.0, p.1.now)) s (zip (zip (lines l.frame.now) l.hashes.now) kept)
+
+module _ (l : Lines) (kept : List ℕ) where
+  pub along_all : {c : Cursors} {h : Zip Cursors (Iter ℕ)} {z s : Zip (Zip Cursors (Iter ℕ)) (Iter ℕ)} → c ≡ from_first first_line count_bytes l.frame
+      → zip_first h ≡ c → iter_rest (zip_second h) ≡ l.hashes.now → zip_first z ≡ h → iter_rest (zip_second z) ≡ kept → s ≡ z → Along l kept s
+  along_all {s = s} o a b d e i =
+      YieldsList-from_zip {s = s}
+      (YieldsList-from_zip {s = zip_first s} (lines_yield l.frame (rw (i, d, a) o)) (YieldsList-from_slice l.hashes.now (rw (i, d) b)))
+      (YieldsList-from_slice kept (rw i e))
+
+  module _ {s : Zip (Zip Cursors (Iter ℕ)) (Iter ℕ)} (w : Along l kept s) (xs : List ((Cursor × Bor ℕ) × Bor ℕ)) (t : Zip (Zip Cursors (Iter ℕ)) (Iter ℕ))
+      (y : Yields entries_go s xs t) (r : Option ((Cursor × Bor ℕ) × Bor ℕ)) (u : Zip (Zip Cursors (Iter ℕ)) (Iter ℕ)) (g : entries_go t r u) where
+    -- a turn: a line with its hash, and what is kept for it
+    pub entry_turn : (c : Cursor) (h x : Bor ℕ) → r ≡ Some ((c, h), x) → InHand l.frame.now (length xs) c.at h.now × (x.now ≡ get_or kept (length xs) 0)
+    entry_turn c h x i =
+        let turn = YieldsList-turn w xs t y r u ((c, h), x) i g in
+        let both = zip_nth (zip (lines l.frame.now) l.hashes.now) kept (length xs) turn.0 turn.1 in
+        (in_hand l.frame.now l.hashes.now l.sound l.hashed (length xs) both.0 both.2, both.3 ∙ get_or-inside kept (length xs) x.now 0 both.1)
+
+    -- the end: there is no other line, where something is kept for each
+    pub entries_end : r ≡ None → length (lines l.frame.now) ≤ length kept → length (lines l.frame.now) ≤ length xs
+    entries_end i long =
+        let end = YieldsList-end w xs t y r u i g in
+        omega (arith, end.1, length-zip (zip (lines l.frame.now) l.hashes.now) kept, zipped_long l.frame.now l.hashes.now l.hashed)

@@ -1,7 +1,7 @@
 // Taking a report: all lines are judged before a byte is written.
 #![tactic(auto)]
 
-ghost use Rattle.std.specs.Prelude.{◌≡◌, List, ℕ, Ok, OnOk, OnErr, IfOk, false, take, ◌+◌, ◌-◌, ◌≤◌, ◌<◌, length, get_or};
+ghost use Rattle.std.specs.Prelude.{◌≡◌, List, ℕ, Ok, OnOk, OnErr, IfOk, false, ◌+◌, ◌-◌, ◌≤◌, ◌<◌, length, get_or};
 ghost use Rattle.terms.specs.Terms.{max_term, fnv1a};
 ghost use Rattle.frames.specs.Frames.{max_body, lines, report_refusal, report_lines};
 ghost use Rattle.frames.specs.Read.{Folds, hashes_of, max_lines};
@@ -18,7 +18,7 @@ ghost use Rattle.ingest.specs.declared.Place.TheVariants.{New};
 
 use blocks::Head;
 use counters::Counters;
-use frames::Cursor;
+use frames::Cursors;
 use lookup::Found;
 use refusals::Refusal;
 
@@ -63,12 +63,10 @@ struct Lines<'a> {
     frame: &'a [u8],
     names: &'a [u8],
     hashes: &'a [u32],
-    count: usize,
     ghost sound: { report_refusal frame.now ≡ 0 },
     ghost folded: { Folds frame.now names.now },
-    ghost hashed: { take count hashes.now ≡ hashes_of frame.now (lines frame.now) },
-    ghost all: { count ≡ length (lines frame.now) },
-    ghost few: { count ≤ max_lines },
+    ghost hashed: { hashes.now ≡ hashes_of frame.now (lines frame.now) },
+    ghost few: { length (lines frame.now) ≤ max_lines },
 }
 
 // ---- where a line goes
@@ -153,18 +151,17 @@ fn plan_lines(arena: &[u8], table: &[u32], k: Counters, lines: Lines, kept: &mut
     ensures plan { Plans (lines_plan (memory arena.now table.now k) (report_lines lines.entry.frame.now)) result }
     ensures kept { OnOk result (Kept (memory arena.now table.now k) lines.entry.frame.now kept.new) }
 {
+    let count = lines.hashes.len();
     let mut lengths = [0u8; 820];
-    lookup::first_entries(table, lines.hashes, lines.count, kept);
-    lookup::first_lengths(arena, k.used, kept, lines.count, &mut lengths);
+    lookup::first_entries(table, lines.hashes, count, kept);
+    lookup::first_lengths(arena, k.used, kept, count, &mut lengths);
     let mut plan = Plan { terms: 0, blocks: 0 };
-    let mut c = Cursor { at: 4 };
-    for n in 0..lines.count {
+    for (n, (c, hash)) in Cursors::lines(lines.frame).zip(lines.hashes).enumerate() {
         let entry = kept[n];
         let name = c.name(lines.frame, lines.names);
-        let found = lookup::find_from(arena, k.used, table, name, lines.hashes[n], entry, lengths[n]);
+        let found = lookup::find_from(arena, k.used, table, name, *hash, entry, lengths[n]);
         kept[n] = lookup::first_hit(found, entry);
         plan = plan.with(place_found(arena, k, found?, c.count(lines.frame))?);
-        c = c.past(lines.frame, 4);
     }
     Ok(plan)
 }
@@ -305,12 +302,9 @@ fn write_lines(
 {
     let mut marks = [false; 1024];
     let mut left = k;
-    let mut c = Cursor { at: 4 };
-    for n in 0..lines.count {
+    for ((c, hash), entry) in Cursors::lines(lines.frame).zip(lines.hashes).zip(kept) {
         let name = c.name(lines.frame, lines.names);
-        let count = c.count(lines.frame);
-        left = write_line(arena, table, left, name, lines.hashes[n], count, kept[n], &mut marks)?;
-        c = c.past(lines.frame, 4);
+        left = write_line(arena, table, left, name, *hash, c.count(lines.frame), *entry, &mut marks)?;
     }
     Ok(left)
 }
@@ -351,8 +345,7 @@ fn judge_and_write(
     let lines = Lines {
         frame,
         names: &names,
-        hashes: &hashes,
-        count,
+        hashes: &hashes[..count],
     };
     judge_report(arena, table, k, lines, &mut kept)?;
     Ok(write_lines(arena, table, k, lines, &kept))

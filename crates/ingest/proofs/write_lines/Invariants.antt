@@ -1,13 +1,14 @@
 -- Writing the lines that are left, onto what those before left, is writing all, and what was kept of the searches lasts where it is not marked.
+use lib.ListN.{length}
 use Rattle.counters.specs.Counters.{memory}
-use Rattle.ingest.proofs.Standing.{Stands}
+use Rattle.ingest.proofs.Standing.{Along}
 use Rattle.ingest.proofs.Writing.{Wrote}
 use Rattle.ingest.proofs.Keeping.{Lasts}
 use Rattle.ingest.proofs.write_lines.Given as goal
 
-abbrev pub invariant-loop-n : goal.invariant-loop-n
-invariant-loop-n l = record {
-  wrote : Wrote (memory l.fn.arena l.fn.table l.fn.k) l.lines.frame.now (memory l.arena l.table l.left) l.n;
-  stands : Stands l.lines.frame.now l.n l.c.at;
+abbrev pub invariant-loop-c : goal.invariant-loop-c
+invariant-loop-c l = record {
+  along : Along l.lines l.kept l.initial.c-iterator;
+  wrote : Wrote (memory l.fn.arena l.fn.table l.fn.k) l.lines.frame.now (memory l.arena l.table l.left) (length l.yielded);
   lasts : Lasts (memory l.fn.arena l.fn.table l.fn.k) (memory l.arena l.table l.left) l.marks;
 }
