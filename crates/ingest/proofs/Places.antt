@@ -1,6 +1,6 @@
 -- Where a line goes: what its place says of the term's head.
 -- Assumes nothing.
-use mathlib.Core.Path.{◌≡◌, refl, sym, ◌∙◌}
+use mathlib.Core.Path.{◌≡◌, refl, sym, ap, ◌∙◌}
 use mathlib.Core.Bool.{Bool, true, false, cond}
 use mathlib.Core.List.{List}
 use Prim.Native.Nat.{ℕ, zero, suc, ◌%◌, ◌≤◌, ◌<◌}
@@ -11,7 +11,7 @@ use Rattle.std.specs.Prelude.{Result, Ok, Err}
 use Rattle.basics.proofs.Cases.{by-eq}
 use Rattle.basics.proofs.Lists.{or_left, or_right}
 use Rattle.terms.specs.Terms.{fnv1a}
-use Rattle.frames.specs.Frames.{count_at, folded_at, line_at}
+use Rattle.frames.specs.Frames.{Line, count_at, folded_at, line_at}
 use Rattle.frames.proofs.Laws.{line-term, line-count}
 use Rattle.blocks.specs.declared.Head.{Head}
 use Rattle.blocks.specs.Fields.{link_of, head_of}
@@ -27,7 +27,8 @@ use Rattle.lookup.specs.Lookup.{slots, next_slot, search_from, search as sought}
 use Rattle.lookup.proofs.Search.{Step, vacant, unused, found, passed, step, from-none, search-none, search-some, search-at}
 use Rattle.counters.specs.declared.Counters.{Counters}
 use Rattle.counters.specs.Counters.{Memory}
-use Rattle.ingest.specs.declared.Place.TheVariants.{Stays, Spills}
+use Rattle.ingest.specs.declared.Place.{Place}
+use Rattle.ingest.specs.declared.Place.TheVariants.{New, Stays, Spills}
 use Rattle.ingest.specs.Report.{next_number, line_of, damaged_head, place_at, placed, place_of}
 use Rattle.ingest.specs.Needs.{Room, Below, HeadIs}
 
@@ -107,15 +108,39 @@ module _ (a : List ℕ) (used : ℕ) (table w : List ℕ) {r : Refusal} where
       by-eq (slots table) 0 (λ z. cc (search-none a used table w z))
       (λ n. from_damage (slots table) (fnv1a w % slots table) (sym (search-some a used table w (omega arith)) ∙ e))
 
+-- so is a place
+pub at_damage : (a : List ℕ) (k : Counters) (f h : ℕ) {r : Refusal} → place_at a k f h ≡ Err r → r ≡ Damaged
+unfolding place_at
+at_damage a k f h {r = r} e = go (damaged_head a k h (head_of a h)) _ e
+  where
+    go : (b : Bool) (p : Place) → cond b (Err Damaged) (Ok p) ≡ Err r → r ≡ Damaged
+    go true p q = cc
+    go false p q = cc
+
+pub place_damage : (m : Memory) (l : Line) {r : Refusal} → place_of m l ≡ Err r → r ≡ Damaged
+unfolding place_of placed
+place_damage m l {r} e = go (sought m.arena m.counters.used m.table l.term) refl e
+  where
+    go : (x : Result Found Refusal) → sought m.arena m.counters.used m.table l.term ≡ x → placed m.arena m.counters l.count x ≡ Err r → r ≡ Damaged
+    go (Ok (At h)) q p = at_damage m.arena m.counters l.count h p
+    go (Ok (Unknown s)) q p = cc
+    go (Err x) q p = let z : x ≡ r = cc in sought_damage m.arena m.counters.used m.table l.term (q ∙ ap Err z)
+
 -- ---- the line at an offset of a frame
 
 -- w and n are its folded term and its count
 module _ (f : List ℕ) (at : ℕ) {w : List ℕ} {n : ℕ} (b : w ≡ folded_at f at) (q : n ≡ count_at f at) where
-  -- its place
-  pub read-place : (m : Memory) → placed m.arena m.counters n (sought m.arena m.counters.used m.table w) ≡ place_of m (line_at f at)
+  -- its place, by what the search for the term found
+  pub read-place : (m : Memory) {x : Result Found Refusal} → sought m.arena m.counters.used m.table w ≡ x → place_of m (line_at f at) ≡ placed m.arena m.counters n x
   unfolding place_of
-  read-place m = rw (q, b, line-term f at, line-count f at)
+  read-place m e = rw (← e, q, b, line-term f at, line-count f at)
 
   -- the line itself
   pub read-line : line_of w n ≡ line_at f at
   read-line = rw (q, b, ← line-term f at, ← line-count f at)
+
+-- its count has no part in it where the search was refused
+pub read_refused : (f : List ℕ) (at : ℕ) {w : List ℕ} → w ≡ folded_at f at → (m : Memory) {r : Refusal} → sought m.arena m.counters.used m.table w ≡ Err r
+    → place_of m (line_at f at) ≡ Err r
+unfolding placed
+read_refused f at b m e = read-place f at b refl m e

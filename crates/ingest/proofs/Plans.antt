@@ -15,12 +15,14 @@ use Rattle.frames.specs.Frames.{line_at, report_lines}
 use Rattle.frames.proofs.Refusals.{first-empty, first_holds, first-zero, first_le}
 use Rattle.blocks.specs.Fields.{capacity}
 use Rattle.refusals.specs.declared.Refusal.{Refusal}
+use Rattle.refusals.specs.declared.Refusal.TheVariants.{Damaged}
 use Rattle.counters.specs.Counters.{Memory, max_terms}
 use Rattle.ingest.specs.declared.Place.{Place}
 use Rattle.ingest.specs.declared.Place.TheVariants.{New, Stays, Spills}
 use Rattle.ingest.specs.declared.Plan.{Plan}
 use Rattle.ingest.specs.Report.{Placed, place_of, is_damaged, terms_for, blocks_for, total, Needed, plan_of, plan_rows, lines_plan}
 use Rattle.ingest.specs.Needs.{with_place, needed}
+use Rattle.ingest.proofs.Places.{place_damage}
 use Rattle.ingest.proofs.Standing.{lines_from, lines_whole}
 
 -- ---- refusals 10 to 12
@@ -131,9 +133,9 @@ module _ {m : Memory} {f : List ℕ} {plan : Plan} {n : ℕ} (w : Planned m f pl
     here = ap (map (place_of m)) more
 
     -- a damaged line decides
-    pub planned_stop : {r : Refusal} → place_of m (line_at f at) ≡ Err r → (lines_plan m (report_lines f)).damaged ≡ true
+    pub planned_stop : {r : Refusal} → place_of m (line_at f at) ≡ Err r → (r ≡ Damaged) × ((lines_plan m (report_lines f)).damaged ≡ true)
     unfolding lines_plan plan_of report_lines any is_damaged
-    planned_stop e = w.sound ∙ rw (here, e)
+    planned_stop e = (place_damage m (line_at f at) e, w.sound ∙ rw (here, e))
 
     pub planned_more : {p : Place} → place_of m (line_at f at) ≡ Ok p → Planned m f (with_place plan p) (n + 1)
     unfolding with_place total any is_damaged

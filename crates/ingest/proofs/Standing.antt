@@ -9,13 +9,14 @@ use lib.ListN.{length, get_or, drop, length-drop, length-map}
 use denote.Ref.{Bor}
 use Rattle.std.proofs.Common.{Iter, Option, Some, None, subst}
 use Rattle.std.specs.Iterator.{Yields}
-use Rattle.std.specs.List.{zip}
+use Rattle.std.specs.List.{zip, enumerate_from}
 use Rattle.core.specs.declared.iter.adapters.Zip.{Zip}
-use Rattle.std.specs.Iterator.Adapters.{zip_first, zip_second}
+use Rattle.core.specs.declared.iter.adapters.Enumerate.{Enumerate}
+use Rattle.std.specs.Iterator.Adapters.{zip_first, zip_second, enumerate_source, enumerate_count, enumerate_steps}
 use Rattle.std.specs.Slice.Iter.{iter_rest}
 use Rattle.std.proofs.iter.Yields.{fronts}
 use Rattle.std.proofs.lemmas.Iterator.{YieldsList, YieldsList-from_slice, YieldsList-from_zip, zips}
-use Rattle.std.proofs.lemmas.Iterator.Consumers.{YieldsList-turn, YieldsList-end}
+use Rattle.std.proofs.lemmas.Iterator.Consumers.{YieldsList-from_enumerate, YieldsList-turn, YieldsList-end}
 use Rattle.ingest.specs.declared.Lines.{Lines}
 use Rattle.std.proofs.lemmas.List.{get_or-map}
 use Rattle.std.proofs.lemmas.Slice.Zip.{length-zip}
@@ -103,30 +104,34 @@ zip_nth (x ∷ xs) (y ∷ ys) (suc n) h e =
     (omega (arith, r.0), omega (arith, r.1), r.2, r.3)
 
 -- the n-th line is the one at this offset, and this is its hash
-pub record InHand (f : List ℕ) (n at hash : ℕ) : Type 0 where
+pub record InHand (f hashes : List ℕ) (n at hash : ℕ) : Type 0 where
   pub counted : n < length (lines f)
   pub stands : Stands f n at
+  pub nth : get_or hashes n 0 ≡ hash
   pub hashed : hash ≡ fnv1a (folded_at f at)
 
-pub in_hand : (f hashes : List ℕ) → report_refusal f ≡ 0 → hashes ≡ hashes_of f (lines f) → (n : ℕ) {at hash : ℕ}
-    → n < length (zip (lines f) hashes) → (at, hash) ≡ get_or (zip (lines f) hashes) n (at, hash) → InHand f n at hash
-unfolding hashes_of
-in_hand f hashes z e n {at} {hash} h q =
-    let p = zip_nth (lines f) hashes n h q in
-    let here : at ≡ get_or (lines f) n 0 = p.2 ∙ get_or-inside (lines f) n at 0 p.0 in
-    record {
-      counted = p.0;
-      stands = rw here (stands_nth f z n p.0);
-      hashed = p.3
-      ∙ ap (λ (hs : List ℕ). get_or hs n hash) e
-      ∙ get_or-map (λ (i : ℕ). fnv1a (folded_at f i)) (lines f) n 0 hash p.0
-      ∙ ap (λ (i : ℕ). fnv1a (folded_at f i)) (sym here);
-    }
+module _ (l : Lines) where
+  -- there is a hash for each line
+  pub hashes_long : length l.hashes.now ≡ length (lines l.frame.now)
+  unfolding hashes_of
+  hashes_long = omega (arith, simp length-map at (ap length l.hashed))
 
--- the lists go together to the end
-pub zipped_long : (f hashes : List ℕ) → hashes ≡ hashes_of f (lines f) → length (zip (lines f) hashes) ≡ length (lines f)
-unfolding hashes_of
-zipped_long f hashes e = omega (arith, length-zip (lines f) hashes, simp length-map at (ap length e))
+  in_hand : (n : ℕ) {at hash : ℕ} → n < length (zip (lines l.frame.now) l.hashes.now) → (at, hash) ≡ get_or (zip (lines l.frame.now) l.hashes.now) n (at, hash)
+      → InHand l.frame.now l.hashes.now n at hash
+  unfolding hashes_of
+  in_hand n {at} {hash} h q =
+      let f = l.frame.now in
+      let p = zip_nth (lines f) l.hashes.now n h q in
+      let here : at ≡ get_or (lines f) n 0 = p.2 ∙ get_or-inside (lines f) n at 0 p.0 in
+      record {
+        counted = p.0;
+        stands = rw here (stands_nth f l.sound n p.0);
+        nth = sym (p.3 ∙ get_or-inside l.hashes.now n hash 0 p.1);
+        hashed = p.3
+        ∙ ap (λ (hs : List ℕ). get_or hs n hash) l.hashed
+        ∙ get_or-map (λ (i : ℕ). fnv1a (folded_at f i)) (lines f) n 0 hash p.0
+        ∙ ap (λ (i : ℕ). fnv1a (folded_at f i)) (sym here);
+      }
 
 -- ---- going over the lines along with their hashes, and with what is kept for each
 
@@ -158,14 +163,55 @@ module _ (l : Lines) (kept : List ℕ) where
   module _ {s : Zip (Zip Cursors (Iter ℕ)) (Iter ℕ)} (w : Along l kept s) (xs : List ((Cursor × Bor ℕ) × Bor ℕ)) (t : Zip (Zip Cursors (Iter ℕ)) (Iter ℕ))
       (y : Yields entries_go s xs t) (r : Option ((Cursor × Bor ℕ) × Bor ℕ)) (u : Zip (Zip Cursors (Iter ℕ)) (Iter ℕ)) (g : entries_go t r u) where
     -- a turn: a line with its hash, and what is kept for it
-    pub entry_turn : (c : Cursor) (h x : Bor ℕ) → r ≡ Some ((c, h), x) → InHand l.frame.now (length xs) c.at h.now × (x.now ≡ get_or kept (length xs) 0)
+    pub entry_turn : (c : Cursor) (h x : Bor ℕ) → r ≡ Some ((c, h), x) → InHand l.frame.now l.hashes.now (length xs) c.at h.now × (x.now ≡ get_or kept (length xs) 0)
     entry_turn c h x i =
         let turn = YieldsList-turn w xs t y r u ((c, h), x) i g in
         let both = zip_nth (zip (lines l.frame.now) l.hashes.now) kept (length xs) turn.0 turn.1 in
-        (in_hand l.frame.now l.hashes.now l.sound l.hashed (length xs) both.0 both.2, both.3 ∙ get_or-inside kept (length xs) x.now 0 both.1)
+        (in_hand l (length xs) both.0 both.2, both.3 ∙ get_or-inside kept (length xs) x.now 0 both.1)
 
     -- the end: there is no other line, where something is kept for each
     pub entries_end : r ≡ None → length (lines l.frame.now) ≤ length kept → length (lines l.frame.now) ≤ length xs
     entries_end i long =
         let end = YieldsList-end w xs t y r u i g in
-        omega (arith, end.1, length-zip (zip (lines l.frame.now) l.hashes.now) kept, zipped_long l.frame.now l.hashes.now l.hashed)
+        omega (arith, end.1, length-zip (zip (lines l.frame.now) l.hashes.now) kept, length-zip (lines l.frame.now) l.hashes.now, hashes_long l)
+
+-- ---- the same counted, without what is kept
+
+enumerate_nth : {A : Type 0} (xs : List A) (a k : ℕ) {n : ℕ} {x : A} → k < length (enumerate_from a xs) → (n, x) ≡ get_or (enumerate_from a xs) k (n, x)
+    → (k < length xs) × (n ≡ a + k) × (x ≡ get_or xs k x)
+enumerate_nth [] a k h e = absurd (omega arith)
+enumerate_nth (x ∷ xs) a zero h e = (omega arith, omega (arith, ap (λ p. p.0) e), ap (λ p. p.1) e)
+enumerate_nth (x ∷ xs) a (suc k) h e =
+    let r = enumerate_nth xs (a + 1) k (omega arith) e in
+    (omega (arith, r.0), omega (arith, r.1), r.2)
+
+length-enumerate : {A : Type 0} (xs : List A) (a : ℕ) → length (enumerate_from a xs) ≡ length xs
+length-enumerate [] a = refl
+length-enumerate (x ∷ xs) a = ap suc (length-enumerate xs (a + 1))
+
+abbrev counted_go : Enumerate (Zip Cursors (Iter ℕ)) → Option (ℕ × (Cursor × Bor ℕ)) → Enumerate (Zip Cursors (Iter ℕ)) → Type 0
+counted_go = enumerate_steps hashes_go
+
+abbrev pub Counted : Lines → Enumerate (Zip Cursors (Iter ℕ)) → Type 0
+Counted l s = YieldsList counted_go (λ p. (p.0, line_hash p.1)) s (enumerate_from 0 (zip (lines l.frame.now) l.hashes.now))
+
+module _ (l : Lines) where
+  pub counted_all : {c : Cursors} {h : Zip Cursors (Iter ℕ)} {z s : Enumerate (Zip Cursors (Iter ℕ))} → c ≡ from_first first_line count_bytes l.frame
+      → zip_first h ≡ c → iter_rest (zip_second h) ≡ l.hashes.now → enumerate_source z ≡ h → enumerate_count z ≡ 0 → s ≡ z → Counted l s
+  counted_all {s = s} o a b d n i =
+      YieldsList-from_enumerate {s = s}
+      (YieldsList-from_zip {s = enumerate_source s} (lines_yield l.frame (rw (i, d, a) o)) (YieldsList-from_slice l.hashes.now (rw (i, d) b)))
+      (rw i n)
+
+  module _ {s : Enumerate (Zip Cursors (Iter ℕ))} (w : Counted l s) (xs : List (ℕ × (Cursor × Bor ℕ))) (t : Enumerate (Zip Cursors (Iter ℕ)))
+      (y : Yields counted_go s xs t) (r : Option (ℕ × (Cursor × Bor ℕ))) (u : Enumerate (Zip Cursors (Iter ℕ))) (g : counted_go t r u) where
+    pub counted_turn : (n : ℕ) (c : Cursor) (h : Bor ℕ) → r ≡ Some (n, (c, h)) → InHand l.frame.now l.hashes.now (length xs) c.at h.now × (n ≡ length xs)
+    counted_turn n c h i =
+        let turn = YieldsList-turn w xs t y r u (n, (c, h)) i g in
+        let both = enumerate_nth (zip (lines l.frame.now) l.hashes.now) 0 (length xs) turn.0 turn.1 in
+        (in_hand l (length xs) both.0 both.2, omega (arith, both.1))
+
+    pub counted_end : r ≡ None → length xs ≡ length (lines l.frame.now)
+    counted_end i =
+        let end = YieldsList-end w xs t y r u i g in
+        omega (arith, end.1, length-enumerate (zip (lines l.frame.now) l.hashes.now) 0, length-zip (lines l.frame.now) l.hashes.now, hashes_long l)
