@@ -5,7 +5,7 @@ use mathlib.Core.List.{List, [], ◌∷◌, map}
 use Prim.Native.Nat.{ℕ, zero, suc, ◌+◌, ◌≤◌, ◌<◌}
 use native.Mathlib.Numerals.{add-one}
 use native.Mathlib.Omega.{arith}
-use lib.ListN.{length, get_or, drop, length-drop, length-map}
+use lib.ListN.{length, get_or, take, drop, length-drop, length-map}
 use denote.Ref.{Bor}
 use Rattle.std.proofs.Common.{Iter, Option, Some, None, subst}
 use Rattle.std.specs.Iterator.{Yields}
@@ -18,13 +18,14 @@ use Rattle.std.proofs.iter.Yields.{fronts}
 use Rattle.std.proofs.lemmas.Iterator.{YieldsList, YieldsList-from_slice, YieldsList-from_zip, zips}
 use Rattle.std.proofs.lemmas.Iterator.Consumers.{YieldsList-from_enumerate, YieldsList-turn, YieldsList-end}
 use Rattle.ingest.specs.declared.Lines.{Lines}
+use lib.Seq.{take-append_seam}
 use Rattle.std.proofs.lemmas.List.{get_or-map}
 use Rattle.std.proofs.lemmas.Slice.Zip.{length-zip}
 use Rattle.basics.proofs.Cases.{by-lt}
 use Rattle.basics.proofs.Parts.{rest_here, rest-next, get_or-inside}
 use Rattle.terms.specs.Terms.{fnv1a}
 use Rattle.frames.specs.Frames.{Line, count_bytes, first_line, past_field, Field, fields, lines, line_at, folded_at, report_lines, report_refusal}
-use Rattle.frames.specs.Read.{hashes_of}
+use Rattle.frames.specs.Read.{hashes_of, Read}
 use Rattle.frames.proofs.Fields.{field_term, fields_end, fields_more}
 use Rattle.frames.specs.declared.Cursor.{Cursor}
 use Rattle.frames.specs.declared.Cursors.{Cursors}
@@ -90,6 +91,14 @@ stands_nth f z (suc n) h =
     let l : n < length (lines f) = omega arith in
     let s : Stands f (suc n) (past_field count_bytes f (get_or (lines f) n 0)) = rw add-one at (stands_on (stands_nth f z n l) l) in
     rw (stands_here s h) s
+
+-- the hashes that reading a report left
+pub read_hashes : {f names hashes : List ℕ} {n : ℕ} → Read f names hashes → n ≡ length (lines f) → take n hashes ≡ hashes_of f (lines f)
+unfolding hashes_of
+read_hashes {f} {n = n} r e =
+    let hs = hashes_of f (lines f) in
+    let long : length hs ≡ n = length-map (lines f) (λ (i : ℕ). fnv1a (folded_at f i)) ∙ sym e in
+    rw (r.hashed.is, ← long) (take-append_seam hs r.hashed.rest)
 
 -- ---- the line in hand, when lines go along with their hashes
 
