@@ -1,5 +1,5 @@
 -- The tests are of the head as it stands, which was read once, and a sound head can take a posting.
-use mathlib.Core.Path.{◌≡◌, refl, sym, ◌∙◌}
+use mathlib.Core.Path.{sym, ◌∙◌}
 use Prim.Native.Nat.{◌+◌}
 use native.Mathlib.Omega.{arith}
 use Rattle.blocks.proofs.Capacity.{next-inside}

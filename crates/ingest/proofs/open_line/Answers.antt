@@ -3,11 +3,10 @@ use mathlib.Core.Path.{sym}
 use Prim.Native.Nat.{◌+◌, ◌<◌}
 use native.Mathlib.Omega.{arith}
 use Rattle.std.specs.Prelude.{Ok}
-use Rattle.frames.specs.Frames.{Line}
 use Rattle.blocks.specs.Fields.{capacity}
 use Rattle.blocks.proofs.Capacity.{capacity-word, next-inside}
 use Rattle.lookup.proofs.Search.{slots_le}
-use Rattle.counters.specs.Counters.{Memory, memory, max_terms}
+use Rattle.counters.specs.Counters.{memory}
 use Rattle.counters.proofs.Laws.{max_terms-slots}
 use Rattle.ingest.specs.declared.Place.TheVariants.{New}
 use Rattle.ingest.specs.Report.{line_of, written}

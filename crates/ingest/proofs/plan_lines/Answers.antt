@@ -1,20 +1,15 @@
 -- The first entries and the lengths behind them are asked for together; then the line in hand is planned and its entry kept or not.
-use mathlib.Core.Path.{◌≡◌, refl, sym, ap, ◌∙◌}
-use Prim.Native.Nat.{ℕ, ◌≤◌, ◌<◌}
+use mathlib.Core.Path.{◌≡◌, sym, ap, ◌∙◌}
+use Prim.Native.Nat.{◌<◌}
 use native.Mathlib.Omega.{arith}
 use lib.ListN.{length, get_or}
-use Rattle.std.specs.Prelude.{Result, Ok, Err}
 use Rattle.std.proofs.lemmas.Result.{err_from_is_err_and}
 use Rattle.std.proofs.lemmas.List.{length_push}
 use Rattle.terms.specs.Terms.{fnv1a}
-use Rattle.frames.specs.Frames.{lines}
 use Rattle.frames.proofs.Laws.{sound-name, sound-some}
 use Rattle.blocks.proofs.Capacity.{used-inside}
-use Rattle.refusals.specs.declared.Refusal.{Refusal}
-use Rattle.lookup.specs.declared.Found.{Found}
 use Rattle.lookup.specs.Lookup.{search as sought, first_entry, length_behind, first_hit}
 use Rattle.counters.specs.Counters.{memory}
-use Rattle.ingest.specs.Report.{place_of}
 use Rattle.ingest.proofs.Places.{found_below, read-place, read_refused}
 use Rattle.ingest.proofs.Standing.{lines_done, inside, stands_here, lines_more, stands_field, stands_term, hashes_long, counted_all, counted_turn, counted_end}
 use Rattle.ingest.proofs.Plans.{planned_none, planned_end, planned_stop, planned_more}

@@ -1,5 +1,5 @@
 -- By what the search for the line's term found.
-use mathlib.Core.Path.{◌≡◌, refl, sym}
+use mathlib.Core.Path.{◌≡◌, sym}
 use Prim.Native.Nat.{◌+◌}
 use Rattle.std.specs.Prelude.{Ok, Err}
 use Rattle.blocks.proofs.Capacity.{used-inside}

@@ -1,13 +1,13 @@
 -- The line in hand is the n-th, and it was kept for it what the search found before writing.
 use mathlib.Core.Path.{◌≡◌, refl, sym, ap, ◌∙◌}
 use mathlib.Core.Bool.{Bool, false}
-use Prim.Native.Nat.{ℕ, ◌≤◌, ◌<◌}
+use Prim.Native.Nat.{◌≤◌}
 use native.Mathlib.Omega.{arith}
 use lib.ListN.{length, length-replicate}
 use Rattle.std.proofs.lemmas.Result.{err_from_is_err_and}
 use Rattle.std.proofs.lemmas.List.{length_push}
 use Rattle.terms.specs.Terms.{max_term}
-use Rattle.frames.specs.Frames.{lines, line_at}
+use Rattle.frames.specs.Frames.{line_at}
 use Rattle.frames.proofs.Laws.{sound-name}
 use Rattle.counters.specs.Counters.{memory}
 use Rattle.ingest.specs.Report.{line_of}
