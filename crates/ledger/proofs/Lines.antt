@@ -5,6 +5,7 @@ use Prim.Native.Nat.{ℕ, suc, ◌+◌, ◌≤◌, ◌<◌}
 use mathlib.Core.Bool.{true, false}
 use mathlib.Core.List.{List, [], ◌∷◌, ◌++◌, map-append}
 use native.Mathlib.Omega.{arith}
+use Rattle.std.specs.Prelude.{Ok}
 use lib.ListN.{length}
 use lib.Seq.{map-set_same}
 use borrow.Author.Tests.{ltb-true, ltb-false}
@@ -15,7 +16,7 @@ use Rattle.blocks.specs.Prescribed.{Posting}
 use Rattle.blocks.specs.Writes.{fits, open_head, append}
 use Rattle.chains.specs.Chains.{last_from}
 use Rattle.lookup.specs.Lookup.{search, enter}
-use Rattle.lookup.specs.declared.Found.TheVariants as found
+use Rattle.lookup.specs.declared.Found.TheVariants.{At, Unknown}
 use Rattle.lookup.proofs.Search.{Stands, length-enter}
 use Rattle.lookup.proofs.Table.{Known, Tab, tab_keep, tab_enter}
 use Rattle.counters.specs.Counters.{Memory, memory, max_terms}
@@ -119,21 +120,21 @@ module _ {m : Memory} {ix : Index} {n : ℕ} (r : Rep m ix n) (l : Line) (g : Go
     fits-is = ap (λ (d : Head). fits d (n + 1) l.count) (head_for_lem r.image r.linked here (ltb-true _ _ e))
 
     stays_rep : fits (head_for (term_at ix here)) (n + 1) l.count ≡ true → used_of next_ix ≤ capacity m.arena
-        → Wrote m (written m (n + 1) l (Stays head)) next_ix n
+        → Wrote m (written m (n + 1) l (Ok (Stays head))) next_ix n
     unfolding written append
     stays_rep f h =
         append_rep h m.counters.used (r.used_is ∙ sym (used-posting ix here (posting (n + 1) l) ∙ rw f)) _ (rw (fits-is, f))
 
     spills_rep : fits (head_for (term_at ix here)) (n + 1) l.count ≡ false → used_of next_ix ≤ capacity m.arena
-        → Wrote m (written m (n + 1) l (Spills head)) next_ix n
+        → Wrote m (written m (n + 1) l (Ok (Spills head))) next_ix n
     unfolding written append
     spills_rep f h =
         append_rep h (m.counters.used + 1) (rw (used-posting ix here (posting (n + 1) l), f) (omega (arith, r.used_is))) _ (rw (fits-is, f))
 
   -- of a new one
-  opens_rep : knows ix.terms l.term ≡ false → (s : ℕ) → search m.arena m.counters.used m.table l.term ≡ found.Unknown s
+  opens_rep : knows ix.terms l.term ≡ false → (s : ℕ) → search m.arena m.counters.used m.table l.term ≡ Ok (Unknown s)
       → suc (used_of ix) ≤ capacity m.arena → suc (length ix.terms) ≤ max_terms m.table
-      → Wrote m (written m (n + 1) l (New s)) (with_term ix l.term (posting (n + 1) l)) n
+      → Wrote m (written m (n + 1) l (Ok (New s))) (with_term ix l.term (posting (n + 1) l)) n
   unfolding written max_terms
   opens_rep e s q h t =
       let p : Posting = posting (n + 1) l in

@@ -5,6 +5,7 @@ use Prim.Native.Nat.{ℕ, ◌<◌}
 use mathlib.Core.Bool.{Bool, true, false, cond}
 use mathlib.Core.List.{List, [], ◌∷◌}
 use native.Mathlib.Omega.{arith}
+use Rattle.std.specs.Prelude.{Ok}
 use lib.ListN.{length}
 use borrow.Author.Tests.{ltb-true, ltb-false}
 use Rattle.basics.specs.Lists.{any, same}
@@ -12,7 +13,7 @@ use Rattle.frames.specs.Refusals.{Row, ◌if◌, first_of}
 use Rattle.frames.specs.Frames.{head_rows, field_rows, report_rows}
 use Rattle.chains.specs.Chains.{whole, chain_of}
 use Rattle.lookup.specs.Lookup.{search}
-use Rattle.lookup.specs.declared.Found.TheVariants as found
+use Rattle.lookup.specs.declared.Found.TheVariants.{At, Unknown}
 use Rattle.counters.specs.Counters.{Memory}
 use Rattle.layout.specs.Held.{postings_of as postings_in, head_no}
 use Rattle.layout.specs.Index.{term_at}
@@ -31,9 +32,9 @@ names_known rs w = ap (any (same w)) (sym (grown-names rs)) ∙ named_known w (g
 
 -- the search for a term of name w: at a head whose chain reads as the ledger's postings, or unknown and the ledger has none
 pub data Looks (m : Memory) (rs : List Report) (w : List ℕ) : Type 0 where
-  at : (h : ℕ) → any (same w) (names rs) ≡ true → search m.arena m.counters.used m.table w ≡ found.At h
+  at : (h : ℕ) → any (same w) (names rs) ≡ true → search m.arena m.counters.used m.table w ≡ Ok (At h)
       → chain_of m.arena m.counters.used m.counters.reports h ≡ whole (postings_of rs w) → Looks m rs w
-  off : (s : ℕ) → any (same w) (names rs) ≡ false → search m.arena m.counters.used m.table w ≡ found.Unknown s
+  off : (s : ℕ) → any (same w) (names rs) ≡ false → search m.arena m.counters.used m.table w ≡ Ok (Unknown s)
       → postings_of rs w ≡ [] → Looks m rs w
 
 module _ {m : Memory} {rs : List Report} (s : StandsFor m rs) where

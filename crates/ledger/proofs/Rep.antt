@@ -5,6 +5,7 @@ use Prim.Native.Nat.{ℕ, ◌+◌, ◌-◌, ◌≤◌, ◌<◌}
 use mathlib.Core.Bool.{Bool, true, false, cond}
 use mathlib.Core.List.{List, [], ◌∷◌, map}
 use native.Mathlib.Omega.{arith}
+use Rattle.std.specs.Prelude.{Ok}
 use lib.Dec.{leb}
 use lib.ListN.{length, replicate, length-map, get_or-map}
 use borrow.Author.Tests.{ltb-true, ltb-false, le-ltb}
@@ -18,7 +19,7 @@ use Rattle.blocks.specs.Writes.{fits}
 use Rattle.chains.specs.Chains.{whole, last_from, chain_of}
 use Rattle.chains.proofs.Laws.{chain-whole}
 use Rattle.lookup.specs.Lookup.{slots, search}
-use Rattle.lookup.specs.declared.Found.TheVariants as found
+use Rattle.lookup.specs.declared.Found.TheVariants.{At, Unknown}
 use Rattle.lookup.proofs.Search.{search-none}
 use Rattle.lookup.proofs.Table.{Known, nth, Tab, Lacks, Open, known, unknown, tab_start}
 use Rattle.counters.specs.Counters.{Memory, memory}
@@ -78,17 +79,17 @@ lacks ix w e i h q =
 
 module _ {m : Memory} {ix : Index} {n : ℕ} (r : Rep m ix n) (w : List ℕ) where
   -- of a known name
-  pub search_known : knows ix.terms w ≡ true → search m.arena m.counters.used m.table w ≡ found.At (head_no (term_at ix (find w ix.terms)))
+  pub search_known : knows ix.terms w ≡ true → search m.arena m.counters.used m.table w ≡ Ok (At (head_no (term_at ix (find w ix.terms))))
   search_known e =
       let i : ℕ = find w ix.terms in
       let h : i < length ix.terms = ltb-true _ _ e in
       let q : nth (entries_of ix) i ≡ entry_of (term_at ix i) = nth_entry ix i in
       let nm : (nth (entries_of ix) i).name ≡ w = ap (λ (k : Known). k.name) q ∙ find-name w ix.terms h in
       ap (λ (u : ℕ). search m.arena u m.table w) r.used_is
-      ∙ ap (search m.arena (used_of ix) m.table) (sym nm) ∙ known r.tab i (rw (length-entries ix) h) ∙ ap (λ (k : Known). found.At k.head) q
+      ∙ ap (search m.arena (used_of ix) m.table) (sym nm) ∙ known r.tab i (rw (length-entries ix) h) ∙ ap (λ (k : Known). Ok (At k.head)) q
 
   -- of an unknown one
-  pub search_unknown : knows ix.terms w ≡ false → (s : ℕ) × (search m.arena m.counters.used m.table w ≡ found.Unknown s)
+  pub search_unknown : knows ix.terms w ≡ false → (s : ℕ) × (search m.arena m.counters.used m.table w ≡ Ok (Unknown s))
   search_unknown e =
       by-eq (slots m.table) 0
       (λ z. (0, search-none m.arena m.counters.used m.table w z))
@@ -149,18 +150,18 @@ module _ {m : Memory} {ix : Index} {n : ℕ} (r : Rep m ix n) where
           le-ltb m.counters.reports (head_of m.arena place).postings (omega (arith, w.postings, r.reports_is, rising_length s)),
         )
 
-    place_at_lem : (f : ℕ) → place_at m.arena m.counters f place ≡ cond (fits (head_for term) (n + 1) f) (Stays place) (Spills place)
+    place_at_lem : (f : ℕ) → place_at m.arena m.counters f place ≡ Ok (cond (fits (head_for term) (n + 1) f) (Stays place) (Spills place))
     unfolding place_at
     place_at_lem f = rw (sound-head, head_for_lem r.image r.linked i hi, r.reports_is)
 
   -- the three ways that a line goes
   pub data Goes (l : Line) : Type 0 where
     stays : knows ix.terms l.term ≡ true → fits (head_for (term_at ix (find l.term ix.terms))) (n + 1) l.count ≡ true
-        → place_of m l ≡ Stays (head_no (term_at ix (find l.term ix.terms))) → Goes l
+        → place_of m l ≡ Ok (Stays (head_no (term_at ix (find l.term ix.terms)))) → Goes l
     spills : knows ix.terms l.term ≡ true → fits (head_for (term_at ix (find l.term ix.terms))) (n + 1) l.count ≡ false
-        → place_of m l ≡ Spills (head_no (term_at ix (find l.term ix.terms))) → Goes l
-    opens : knows ix.terms l.term ≡ false → (s : ℕ) → search m.arena m.counters.used m.table l.term ≡ found.Unknown s
-        → place_of m l ≡ New s → Goes l
+        → place_of m l ≡ Ok (Spills (head_no (term_at ix (find l.term ix.terms)))) → Goes l
+    opens : knows ix.terms l.term ≡ false → (s : ℕ) → search m.arena m.counters.used m.table l.term ≡ Ok (Unknown s)
+        → place_of m l ≡ Ok (New s) → Goes l
 
   module _ (l : Line) (g : GoodLine l) (low : last_from 0 (held l.term ix.terms) ≤ n) where
     -- of a known term
@@ -170,12 +171,12 @@ module _ {m : Memory} {ix : Index} {n : ℕ} (r : Rep m ix n) where
         let i : ℕ = find l.term ix.terms in
         let hi : i < length ix.terms = ltb-true _ _ e in
         let lo : last_from 0 (postings_in (term_at ix i)) ≤ n = rw (← (ask_known postings_in [] l.term ix.terms hi)) low in
-        let p : place_of m l ≡ cond (fits (head_for (term_at ix i)) (n + 1) l.count) (Stays (head_no (term_at ix i))) (Spills (head_no (term_at ix i))) =
+        let p : place_of m l ≡ Ok (cond (fits (head_for (term_at ix i)) (n + 1) l.count) (Stays (head_no (term_at ix i))) (Spills (head_no (term_at ix i)))) =
         ap (placed m.arena m.counters l.count) (search_known r l.term e) ∙ place_at_lem i hi lo l.count in
         go b q p
       where
         go : (b : Bool) → fits (head_for (term_at ix (find l.term ix.terms))) (n + 1) l.count ≡ b
-            → place_of m l ≡ cond (fits (head_for (term_at ix (find l.term ix.terms))) (n + 1) l.count) (Stays (head_no (term_at ix (find l.term ix.terms)))) (Spills (head_no (term_at ix (find l.term ix.terms))))
+            → place_of m l ≡ Ok (cond (fits (head_for (term_at ix (find l.term ix.terms))) (n + 1) l.count) (Stays (head_no (term_at ix (find l.term ix.terms)))) (Spills (head_no (term_at ix (find l.term ix.terms)))))
             → Goes l
         go true q p = stays e q (p ∙ rw q)
         go false q p = spills e q (p ∙ rw q)

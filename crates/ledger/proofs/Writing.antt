@@ -13,8 +13,7 @@ use Rattle.frames.specs.Frames.{Line}
 use Rattle.blocks.specs.Fields.{max_word, capacity}
 use Rattle.lookup.specs.Lookup.{slots}
 use Rattle.counters.specs.Counters.{Memory, max_terms}
-use Rattle.ingest.specs.declared.Plan.{Plan}
-use Rattle.ingest.specs.Report.{place_of, is_damaged, terms_for, blocks_for, total, plan_of, plan_rows, lines_plan, written, Writing, write_lines}
+use Rattle.ingest.specs.Report.{place_of, is_damaged, terms_for, blocks_for, total, Needed, plan_of, plan_rows, lines_plan, written, Writing, write_lines}
 use Rattle.layout.specs.Index.{Index, used_of}
 use Rattle.ledger.specs.Grown.{take_line, take_lines, nowhere, GoodLine, GoodLines, no_line, line}
 use Rattle.ledger.proofs.Holds.{Earlier, none, next, earlier_head, earlier_tail, earlier_line}
@@ -47,7 +46,7 @@ module _ {m : Memory} {ix : Index} {n : ℕ} (r : Rep m ix n) (small : n < max_w
   plan_is gs e = rw (fine_lines gs e, needs_lines gs e, news_lines gs e)
 
 -- none of the rows 10 to 12 holds
-rows_pass : (m : Memory) (p : Plan) → p.damaged ≡ false → m.counters.terms + p.terms ≤ max_terms m.table → p.blocks ≤ capacity m.arena - m.counters.used
+rows_pass : (m : Memory) (p : Needed) → p.damaged ≡ false → m.counters.terms + p.terms ≤ max_terms m.table → p.blocks ≤ capacity m.arena - m.counters.used
     → first_of (plan_rows m p) ≡ 0
 unfolding plan_rows first_of
 rows_pass m p d t b =
