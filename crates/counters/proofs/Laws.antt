@@ -1,14 +1,12 @@
 -- Laws of the counters.
 -- Assumes nothing.
 use mathlib.Core.Path.{◌≡◌}
-use mathlib.Core.Bool.{true, false}
+use mathlib.Core.Bool.{false}
 use mathlib.Core.List.{List}
 use Prim.Native.Nat.{ℕ, ◌≤◌, ◌<◌}
 use native.Mathlib.Omega.{arith}
-use lib.Dec.{ltb}
+use Rattle.std.proofs.lemmas.Bool.Decides.{nat_tests}
 use lib.ListN.{length}
-use borrow.Author.Tests.{lt-ltb, le-ltb, ltb-false}
-use Rattle.basics.proofs.Lists.{or_left, or_right}
 use Rattle.blocks.specs.Fields.{capacity}
 use Rattle.lookup.specs.Lookup.{slots}
 use Rattle.counters.specs.declared.Counters.{Counters}
@@ -30,19 +28,6 @@ unfolding max_terms slots
 max_terms_small table = omega arith
 
 module _ (a table : List ℕ) (k : Counters) where
-  pub wrong_used : capacity a < k.used → wrong_counters a table k ≡ true
-  unfolding wrong_counters
-  wrong_used h = rw (lt-ltb (capacity a) k.used h)
-
-  module _ (u : k.used ≤ capacity a) where
-    pub wrong_terms_lem : max_terms table < k.terms → wrong_counters a table k ≡ true
-    unfolding wrong_counters
-    wrong_terms_lem h = rw (le-ltb (capacity a) k.used u, lt-ltb (max_terms table) k.terms h)
-
-    pub wrong_rest : k.terms ≤ max_terms table → wrong_counters a table k ≡ ltb k.used k.terms
-    unfolding wrong_counters
-    wrong_rest h = rw (le-ltb (capacity a) k.used u, le-ltb (max_terms table) k.terms h)
-
   -- counters that refusal 8 lets pass
   pub record Right : Type 0 where
     pub inside : k.used ≤ capacity a
@@ -52,9 +37,4 @@ module _ (a table : List ℕ) (k : Counters) where
   pub right : wrong_counters a table k ≡ false → Right
   unfolding wrong_counters
   right e =
-      let b = or_right (ltb (capacity a) k.used) _ e in
-      record {
-        inside = ltb-false (capacity a) k.used (or_left (ltb (capacity a) k.used) _ e);
-        few = ltb-false (max_terms table) k.terms (or_left (ltb (max_terms table) k.terms) _ b);
-        housed = ltb-false k.used k.terms (or_right (ltb (max_terms table) k.terms) _ b);
-      }
+      record { inside = grind (arith, nat_tests); few = grind (arith, nat_tests); housed = grind (arith, nat_tests) }

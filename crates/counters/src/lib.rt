@@ -6,7 +6,7 @@ ghost use Rattle.counters.specs.Counters.{max_terms, wrong_counters};
 
 // Blocks used, terms held, reports held.
 #[repr(C)]
-#[derive(Clone, Copy)]
+#[derive(Clone, Copy, Default)]
 pub struct Counters {
     pub used: u32,
     pub terms: u32,
@@ -14,6 +14,7 @@ pub struct Counters {
 }
 
 // How many terms a table may hold.
+#[tactic(auto, unfolding(crate::specs::Counters::max_terms))]
 pub fn max_terms(table: &[u32]) -> u32
     ensures { result ≡ max_terms table.now }
 {
@@ -21,14 +22,9 @@ pub fn max_terms(table: &[u32]) -> u32
 }
 
 // Refusal 8.
+#[tactic(auto, using(std::proofs::lemmas::Bool::Decides::nat_tests), unfolding(crate::specs::Counters::wrong_counters))]
 pub fn are_wrong(arena: &[u8], table: &[u32], k: Counters) -> bool
     ensures { result ≡ wrong_counters arena.now table.now k }
 {
-    if blocks::capacity_of(arena) < k.used {
-        return true;
-    }
-    if max_terms(table) < k.terms {
-        return true;
-    }
-    k.used < k.terms
+    blocks::capacity_of(arena) < k.used || max_terms(table) < k.terms || k.used < k.terms
 }
