@@ -8,10 +8,9 @@ use borrow.Author.Tests.{eq-eqb, ne_eqb}
 use Rattle.basics.proofs.Cases.{by-eq}
 use Rattle.frames.specs.Refusals.{first_of}
 use Rattle.frames.specs.Frames.{lines, folded_at, line_at, repeats_after, repeated_term, report_refusal, report_lines}
-use Rattle.frames.proofs.Refusals.{both_zero}
-use Rattle.frames.proofs.Reports.{report-numbered}
 use Rattle.frames.proofs.Laws.{SoundReport, sound-report, line-term}
 use Rattle.ledger.specs.Ledger.{Report, ledger_rows, enter_report}
+use Rattle.ledger.proofs.Reports.{entered-sound}
 use Rattle.ledger.proofs.Listing.{terms_in, Distinct, distinct_more}
 
 -- the terms of the lines of a frame
@@ -23,11 +22,6 @@ pub frame_distinct : (f : List ℕ) → report_refusal f ≡ 0 → repeats_after
 unfolding report_lines repeated_term
 frame_distinct f z =
     let s : SoundReport f = sound-report f z in ap (repeats_after []) (lines-terms f (lines f)) ∙ s.distinct
-
--- where the ledger refuses nothing, the frame is sound
-pub entered-sound : (b e : ℕ) (rs : List Report) (f : List ℕ) → first_of (ledger_rows b e rs f) ≡ 0 → report_refusal f ≡ 0
-unfolding ledger_rows report_refusal
-entered-sound b e rs f z = (both_zero _ (report-numbered f) z).0
 
 pub entered_distinct : (b e : ℕ) (rs : List Report) (f : List ℕ) → Distinct rs → Distinct (enter_report b e rs f).reports
 unfolding enter_report

@@ -2,14 +2,16 @@
 -- Assumes nothing.
 use mathlib.Core.Path.{◌≡◌, refl, sym, ap, ◌∙◌}
 use Prim.Native.Nat.{ℕ, ◌<◌}
-use mathlib.Core.Bool.{Bool, true, false, cond}
-use mathlib.Core.List.{List, [], ◌∷◌}
+use mathlib.Core.Bool.{Bool, true, false, cond, not, ◌||◌}
+use mathlib.Core.List.{List, [], ◌∷◌, map}
 use native.Mathlib.Omega.{arith}
 use Rattle.std.specs.Prelude.{Ok}
+use lib.Dec.{eqb}
 use lib.ListN.{length}
 use borrow.Author.Tests.{ltb-true, ltb-false}
-use Rattle.basics.specs.Lists.{any, same}
-use Rattle.frames.specs.Refusals.{Row, ◌if◌, first_of}
+use Rattle.basics.specs.Lists.{all, any, same}
+use Rattle.basics.proofs.Lists.{and_left, and_right}
+use Rattle.frames.specs.Refusals.{Row, first_of}
 use Rattle.frames.specs.Frames.{head_rows, field_rows, report_rows}
 use Rattle.chains.specs.Chains.{whole, chain_of}
 use Rattle.lookup.specs.Lookup.{search}
@@ -22,7 +24,7 @@ use Rattle.ledger.specs.Grown.{find, knows, grown}
 use Rattle.ledger.proofs.Ask.{ask_known, ask_unknown}
 use Rattle.ledger.proofs.Holds.{named_known, grown-names, grown-terms, grown_held, last_le, grown-used}
 use Rattle.ledger.proofs.Rep.{search_known, search_unknown, rep_reads}
-use Rattle.ledger.proofs.Reports.{StandsFor}
+use Rattle.ledger.proofs.Reports.{rows_are, StandsFor}
 
 -- ---- terms
 
@@ -70,34 +72,22 @@ module _ {m : Memory} {rs : List Report} (s : StandsFor m rs) where
 abbrev pub Given : ℕ → Type 0
 Given n = (n ≡ 8 → ⊥) × (n ≡ 10 → ⊥) × (n ≡ 13 → ⊥)
 
-data Rows : List Row → Type 0 where
-  none : Rows []
-  row : {r : Row} {rs : List Row} → Given r.number → Rows rs → Rows (r ∷ rs)
+abbrev given : ℕ → Bool
+given n = not (eqb n 8 || (eqb n 10 || eqb n 13))
 
-first-given : {rs : List Row} → Rows rs → Given (first_of rs)
-unfolding first_of
-first-given none = (λ e. omega arith, λ e. omega arith, λ e. omega arith)
-first-given (row {r = r} {rs = rs} g n) = go r.holds (first-given n)
+first-given : (rs : List Row) → all given (map (λ r. r.number) rs) ≡ true → Given (first_of rs)
+unfolding first_of all
+first-given [] e = (λ z. omega arith, λ z. omega arith, λ z. omega arith)
+first-given (r ∷ rs) e = go r.holds (first-given rs (and_right (given r.number) _ e))
   where
+    here : given r.number ≡ true
+    here = and_left (given r.number) _ e
+
     go : (b : Bool) → Given (first_of rs) → Given (cond b r.number (first_of rs))
-    go true x = g
+    go true x = (λ z. cc (here, z), λ z. cc (here, z), λ z. cc (here, z))
     go false x = x
 
 -- of the numbers of the rows none is 8, 10 or 13
 pub never : (bytes entries : ℕ) (rs : List Report) (f : List ℕ) → Given (first_of (ledger_rows bytes entries rs f))
-unfolding ledger_rows report_rows head_rows field_rows
-never bytes entries rs f =
-    first-given
-    (row {r = 1 if _} (low 1 (omega arith))
-    (row {r = 2 if _} (low 2 (omega arith))
-    (row {r = 3 if _} (low 3 (omega arith))
-    (row {r = 4 if _} (low 4 (omega arith))
-    (row {r = 5 if _} (low 5 (omega arith))
-    (row {r = 6 if _} (low 6 (omega arith))
-    (row {r = 7 if _} (low 7 (omega arith))
-    (row {r = 9 if _} (λ e. omega arith, λ e. omega arith, λ e. omega arith)
-    (row {r = 11 if _} (λ e. omega arith, λ e. omega arith, λ e. omega arith)
-    (row {r = 12 if _} (λ e. omega arith, λ e. omega arith, λ e. omega arith) none))))))))))
-  where
-    low : (n : ℕ) → n < 8 → Given n
-    low n h = (λ e. omega arith, λ e. omega arith, λ e. omega arith)
+unfolding report_rows head_rows field_rows all
+never bytes entries rs f = rw rows_are (first-given _ refl)

@@ -3,7 +3,7 @@
 use mathlib.Core.Path.{◌≡◌, refl, sym, ap, ◌∙◌}
 use Prim.Native.Nat.{ℕ, ◌+◌, ◌-◌, ◌/◌, ◌≤◌, ◌<◌}
 use mathlib.Core.Bool.{Bool, true, false}
-use mathlib.Core.List.{List, [], ◌∷◌, ◌++◌}
+use mathlib.Core.List.{List, [], ◌∷◌, ◌++◌, append_assoc}
 use native.Mathlib.Omega.{arith}
 use lib.Dec.{ltb, eqb}
 use lib.ListN.{length, length-append, replicate}
@@ -19,7 +19,7 @@ use Rattle.lookup.specs.Lookup.{slots_in, slots}
 use Rattle.counters.specs.Counters.{Memory, memory, max_terms, wrong_counters}
 use Rattle.ingest.specs.Report.{plan_rows, lines_plan, Writing, write_lines, call_rows, call_refusal, Called, ended, report_call}
 use Rattle.layout.specs.Index.{Index, used_of}
-use Rattle.ledger.specs.Ledger.{Report, names, prescribed_blocks, ledger_rows, Entered, enter_report}
+use Rattle.ledger.specs.Ledger.{Report, names, prescribed_blocks, earlier_rows, ledger_rows, Entered, enter_report}
 use Rattle.ledger.specs.Grown.{take_lines, take_reports, grown, GoodLines, GoodReports, no_report}
 use Rattle.ledger.specs.Calls.{Bytes}
 use Rattle.ledger.proofs.Holds.{held, grown-terms, grown_held, last_le, grown-used, grown_housed, grown-linked, grown-snoc, good_snoc, Earlier, earlier_all}
@@ -27,6 +27,18 @@ use Rattle.ledger.proofs.Plan.{needs, news, over, used-lines, terms-lines}
 use Rattle.ledger.proofs.Rep.{Rep, rep_start, length-entries}
 use Rattle.ledger.proofs.Writing.{plan_is, Written, lines_rep}
 use Rattle.ledger.proofs.Frames.{report_good}
+
+-- ---- the ledger's table: the rows of a report's frame, and then 9, 11 and 12
+
+pub rows_are : (bytes entries : ℕ) (rs : List Report) (f : List ℕ) → let more = rs ++ (report_lines f ∷ []) in ledger_rows bytes entries rs f
+    ≡ report_rows f ++ ((9 if eqb (length rs) max_word) ∷ (11 if ltb (slots_in entries / 2) (length (names more))) ∷ (12 if ltb (blocks_in bytes) (prescribed_blocks more)) ∷ [])
+unfolding ledger_rows earlier_rows
+rows_are bytes entries rs f = append_assoc (report_rows f) _ _
+
+-- where the ledger refuses nothing, the frame is sound
+pub entered-sound : (bytes entries : ℕ) (rs : List Report) (f : List ℕ) → first_of (ledger_rows bytes entries rs f) ≡ 0 → report_refusal f ≡ 0
+unfolding report_refusal
+entered-sound bytes entries rs f z = (both_zero _ (report-numbered f) (rw rows_are at z)).0
 
 -- memory m stands for the ledger rs, whose reports are good
 pub record StandsFor (m : Memory) (rs : List Report) : Type 0 where
@@ -125,11 +137,12 @@ module _ {m : Memory} {rs : List Report} (s : StandsFor m rs) where
 
     -- THE REFUSAL is the ledger's: 8 and 10 never occur
     pub refusal_is : call_refusal m f ≡ first_of (ledger_rows (length m.arena) (length m.table) rs f)
-    unfolding call_refusal call_rows ledger_rows report_refusal
+    unfolding call_refusal call_rows report_refusal
     refusal_is =
-        by-eq (first_of (report_rows f)) 0
+        rw rows_are
+        (by-eq (first_of (report_rows f)) 0
         (λ z. first-none _ (report-numbered f) z ∙ rows_as z (eqb (length rs) max_word) refl ∙ sym (first-none _ (report-numbered f) z))
-        (λ z. first_some (report_rows f) _ (omega arith) ∙ sym (first_some (report_rows f) _ (omega arith)))
+        (λ z. first_some (report_rows f) _ (omega arith) ∙ sym (first_some (report_rows f) _ (omega arith))))
 
     -- ---- a report that is taken
 
@@ -141,9 +154,9 @@ module _ {m : Memory} {rs : List Report} (s : StandsFor m rs) where
         blocks : prescribed_blocks more ≤ capacity m.arena
 
       room : Room
-      unfolding ledger_rows report_refusal max_terms slots capacity
+      unfolding report_refusal max_terms slots capacity
       room =
-          let b = both_zero _ (report-numbered f) z in
+          let b = both_zero _ (report-numbered f) (rw rows_are at z) in
           let r₉ = first-zero (9 if eqb (length rs) max_word) _ (omega arith) b.1 in
           let r₁₁ = first-zero (11 if ltb (slots_in (length m.table) / 2) (length (names more))) _ (omega arith) r₉.1 in
           let r₁₂ = first-zero (12 if ltb (blocks_in (length m.arena)) (prescribed_blocks more)) [] (omega arith) r₁₁.1 in

@@ -1,35 +1,34 @@
 -- The consequence for refusal 12: where no earlier rule refuses a report, it meets 12 exactly when the prescribed blocks outnumber the arena's.
 -- Assumes nothing.
-use mathlib.Core.Path.{◌≡◌, sym, ap, ◌∙◌}
+use mathlib.Core.Path.{◌≡◌, refl, sym, ap, ◌∙◌}
 use mathlib.Core.List.{List, [], ◌∷◌, ◌++◌}
 use Prim.Native.Nat.{ℕ, ◌<◌, ◌/◌}
 use native.Mathlib.Omega.{arith}
 use lib.Dec.{ltb, eqb}
 use lib.ListN.{length}
 use borrow.Author.Tests.{lt-ltb, le-ltb, eq-eqb, ne_eqb}
+use Rattle.basics.specs.Lists.{all}
 use Rattle.basics.proofs.Cases.{by-lt, by-eq}
 use Rattle.frames.specs.Refusals.{Row, ◌if◌, first_of}
-use Rattle.frames.specs.Frames.{report_lines}
-use Rattle.frames.proofs.Reports.{report-numbered}
-use Rattle.frames.proofs.Refusals.{first-empty, first_holds, first_passes, first-none, first-zero, both_zero}
+use Rattle.frames.specs.Frames.{head_rows, field_rows, report_rows, report_lines}
+use Rattle.frames.proofs.Refusals.{Numbered, numbered, first-empty, first_holds, first_passes, first-none}
 use Rattle.blocks.specs.Fields.{max_word, blocks_in}
 use Rattle.lookup.specs.Lookup.{slots_in}
 use Rattle.ingest.specs.declared.ReportAnswer.{ReportAnswer}
-use Rattle.ledger.specs.Ledger.{Report, names, prescribed_blocks, ledger_rows, enter_report}
+use Rattle.ledger.specs.Ledger.{Report, prescribed_blocks, earlier_rows, ledger_rows, enter_report}
 use Rattle.ledger.specs.Calls.{start, index_step, final, ledger_for}
-use Rattle.ledger.specs.Room.{earlier_rows, NoRoom}
+use Rattle.ledger.specs.Room.{NoRoom}
 use Rattle.ledger.proofs.Calls.{carried}
 use Rattle.ledger.proofs.Agree.{Carried, carries}
+
+-- each has a number
+earlier-numbered : (entries : ℕ) (rs : List Report) (f : List ℕ) → Numbered (earlier_rows entries rs f)
+unfolding earlier_rows report_rows head_rows field_rows all
+earlier-numbered entries rs f = numbered _ refl
 
 module _ (bytes entries : ℕ) (rs : List Report) (f : List ℕ) where
   abbrev more : List Report
   more = rs ++ (report_lines f ∷ [])
-
-  row9 : Row
-  row9 = 9 if eqb (length rs) max_word
-
-  row11 : Row
-  row11 = 11 if ltb (slots_in entries / 2) (length (names more))
 
   row12 : Row
   row12 = 12 if ltb (blocks_in bytes) (prescribed_blocks more)
@@ -43,12 +42,8 @@ module _ (bytes entries : ℕ) (rs : List Report) (f : List ℕ) where
   module _ (z : first_of (earlier_rows entries rs f) ≡ 0) where
     -- only 12 is left
     left_over : first_of (ledger_rows bytes entries rs f) ≡ first_of (row12 ∷ [])
-    unfolding earlier_rows ledger_rows row9 row11 row12
-    left_over =
-        let b = both_zero _ (report-numbered f) z in
-        let r₉ = first-zero row9 _ (omega arith) b.1 in
-        let r₁₁ = first-zero row11 [] (omega arith) r₉.1 in
-        first-none _ (report-numbered f) b.0 ∙ first_passes row9 _ r₉.0 ∙ first_passes row11 _ r₁₁.0
+    unfolding ledger_rows row12
+    left_over = first-none _ (earlier-numbered entries rs f) z
 
     meets : blocks_in bytes < prescribed_blocks more → (enter_report bytes entries rs f).answer.refusal ≡ 12
     unfolding row12

@@ -54,14 +54,15 @@ prescribed_blocks rs = sum (map (λ w. prescribed (length w) (postings_of rs w))
 
 -- ---- taking a report, with an arena of so many bytes and a table of so many entries
 
+-- the rules that come before 12: 1 to 7, 9 and 11
+unfoldable pub earlier_rows : ℕ → List Report → List ℕ → List Row
+earlier_rows entries rs f =
+    let more = rs ++ (report_lines f ∷ []) in
+    report_rows f ++ ((9 if eqb (length rs) max_word) ∷ (11 if ltb (slots_in entries / 2) (length (names more))) ∷ [])
+
 unfoldable pub ledger_rows : ℕ → ℕ → List Report → List ℕ → List Row
 ledger_rows bytes entries rs f =
-    let more = rs ++ (report_lines f ∷ []) in
-    report_rows f
-    ++ ((9 if eqb (length rs) max_word)
-    ∷ (11 if ltb (slots_in entries / 2) (length (names more)))
-    ∷ (12 if ltb (blocks_in bytes) (prescribed_blocks more))
-    ∷ [])
+    let more = rs ++ (report_lines f ∷ []) in earlier_rows entries rs f ++ ((12 if ltb (blocks_in bytes) (prescribed_blocks more)) ∷ [])
 
 pub record Entered : Type 0 where
   pub answer : ReportAnswer
