@@ -123,7 +123,7 @@ module _ (a : List ℕ) (used reports : ℕ) where
     unfolding follow
     rest-damaged e = run_step (reports - c.number) c ∙ rw e
 
-    -- where the rest is whole, a step gives its first posting, or it ends with the postings, and never finds damage
+    -- where the rest is whole, a step gives its first posting, or it ends with the postings
     module _ (ps : List Posting) (w : rest c ≡ whole ps) where
       pub whole-posting : {n f : ℕ} {c' : Cursor} → step_at a used reports c ≡ stepped n f c'
           → (qs : List Posting) × (rest c' ≡ whole qs) × (ps ≡ record { number = n; count = f } ∷ qs)
@@ -131,9 +131,6 @@ module _ (a : List ℕ) (used reports : ℕ) where
 
       pub whole_end : step_at a used reports c ≡ at_end → ps ≡ []
       whole_end e = cc (rest_end e)
-
-      pub whole_undamaged : step_at a used reports c ≡ damage → ⊥
-      whole_undamaged e = cc (rest-damaged e)
 
 -- ---- the numbers of postings
 
@@ -253,14 +250,6 @@ chain-whole a used reports h ps e = go (bad_head (head_of a h) used h) refl
           postings = w.1;
           last = w.2;
         }
-
--- a chain is whole where its head is sound and agrees with the postings
-pub chain-from : (a : List ℕ) (used reports h : ℕ) (ps : List Posting) → bad_head (head_of a h) used h ≡ false
-    → run (suc reports) a used reports (at_head (head_of a h) used h) ≡ whole ps → length ps ≡ (head_of a h).postings → last_from 0 ps ≡ (head_of a h).last
-    → chain_of a used reports h ≡ whole ps
-unfolding agreeing
-chain-from a used reports h ps e w p q =
-    chain_good a used reports h e ∙ rw (w, eq-eqb (length ps) (head_of a h).postings p, eq-eqb (last_from 0 ps) (head_of a h).last q)
 
 -- what is read whole is a list of postings
 pub is-whole : (r : Reading) → is_whole r ≡ true → (ps : List Posting) × (r ≡ whole ps)

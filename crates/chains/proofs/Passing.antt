@@ -122,11 +122,6 @@ pub passed-stops : (part : List ℕ) (reports at number to : ℕ) → Stopped pa
 unfolding passed
 passed-stops part reports at number to = pass-stops part reports to (length part) (record { at = at; number = number; postings = 0 }) (omega arith)
 
--- at the part's end nothing is passed
-pub passed_none : (part : List ℕ) (reports at number to : ℕ) → length part ≤ at → passed part reports at number to ≡ record { at = at; number = number; postings = 0 }
-unfolding passed
-passed_none part reports at number to h = pass-stopped part reports to (length part) (at_end h)
-
 -- whatever reports there are, as long as no number of the part is over them
 module _ (part : List ℕ) (reports more to : ℕ) where
   pass_known : (k : ℕ) (p : Passed) → Bounded part reports p.at p.number → Bounded part more p.at p.number
@@ -172,6 +167,3 @@ module _ (part : List ℕ) (reports at base : ℕ) where
   pub read_none : decoded (drop at part) ≡ None → part_read part reports at base ≡ None
   unfolding part_read opened
   read_none e = rw e
-
-  pub read_past : length part ≤ at → part_read part reports at base ≡ None
-  read_past h = read_none (ap decoded (drop_of_length-le part h) ∙ decoded-nil)

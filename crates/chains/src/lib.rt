@@ -154,25 +154,23 @@ pub fn pass<const JUDGED: bool>(
     requires known { JUDGED ≡ false → Bounded part.now reports at number }
     ensures { result ≡ passed part.now reports at number to }
 {
-    let mut p = at;
-    let mut n = number;
-    let mut postings: u32 = 0;
-    while p < part.len() && n < to {
-        let Some(d) = postings::decode_at(part, p) else {
+    let mut p = Passed {
+        at,
+        number,
+        postings: 0,
+    };
+    while p.at < part.len() && p.number < to {
+        let Some(d) = postings::decode_at(part, p.at) else {
             break;
         };
-        if JUDGED && reports - n < d.gap {
+        if JUDGED && reports - p.number < d.gap {
             break;
         }
-        n += d.gap;
-        p += d.length;
-        postings += 1;
+        p.number += d.gap;
+        p.at += d.length;
+        p.postings += 1;
     }
-    Passed {
-        at: p,
-        number: n,
-        postings,
-    }
+    p
 }
 
 // Reads on to the part's end, or to where no sound posting stands. All postings are added up before the last number is judged; only where that is over
