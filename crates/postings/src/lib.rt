@@ -52,24 +52,6 @@ impl Gap for BGap {
     }
 }
 
-impl DGap {
-    pub fn from_last(last: u32, number: u32) -> Self
-        requires { last < number }
-        ensures { result.0 ≡ number - last }
-    {
-        DGap(number - last)
-    }
-}
-
-impl BGap {
-    pub fn from_first(first: u32, number: u32) -> Self
-        requires { first < number }
-        ensures { result.0 ≡ number - first }
-    {
-        BGap(number - first)
-    }
-}
-
 // A value at the front of some bytes, and how many of them it takes.
 #[derive(Clone, Copy)]
 pub struct Value {

@@ -4,7 +4,7 @@
 
 ghost use Rattle.std.specs.Prelude.{◌≡◌, IfSome, sum, ◌+◌, ◌≤◌, ◌<◌, length};
 ghost use Rattle.sums.specs.Adding.{sum_of, added_to, Small};
-ghost use Rattle.sums.specs.Rows.{gap_of, mark_of, gap_at, mark_at, lane, Lane, Rows};
+ghost use Rattle.sums.specs.Rows.{is_second, gap_of, mark_of, gap_at, mark_at, lane, Lane, Rows};
 
 // The offset behind the last posting, the number that the gaps lead to, whatever reports there are, and how many postings they are.
 #[derive(Clone, Copy)]
@@ -33,39 +33,35 @@ fn add_up(part: &[u8], from: Sum, stop: usize) -> Sum
 
 // ---- single bytes, sixteen at a time
 
+// Whether a byte behind p and q is the second of a code.
+#[tactic(auto, unfolding(crate::specs::Rows::is_second))]
+fn is_second(q: u8, p: u8) -> bool
+    ensures { result ≡ is_second q p }
+{
+    q % 4 == 0 && p % 4 != 0
+}
+
 // What byte b behind p and q adds to the gaps: nothing where it is the second byte of a code.
-#[tactic(auto, unfolding(crate::specs::Rows::gap_of, crate::specs::Rows::is_second))]
+#[tactic(auto, unfolding(crate::specs::Rows::gap_of))]
 fn gap_of(b: u8, q: u8, p: u8) -> u8
     ensures { result ≡ gap_of b q p }
 {
-    if q % 4 == 0 {
-        if p % 4 != 0 {
-            return 0;
-        }
-    }
-    if b % 4 == 0 { b / 4 } else { b / 4 + 1 }
+    if is_second(q, p) { 0 } else { b.div_ceil(4) }
 }
 
-// What it adds to the number of postings: 1 where it starts a code, and 64, more than a part has, where it does not fit.
+// What it adds to the number of postings: 1 where it starts a code, and 64, more than a part has, where it does not
+// fit.
 #[tactic(auto, unfolding(crate::specs::Rows::mark_of, crate::specs::Rows::is_fit, crate::specs::Rows::is_second))]
 fn mark_of(b: u8, q: u8, p: u8) -> u8
     ensures { result ≡ mark_of b q p }
 {
-    if b == 0 {
+    if b == 0 || 127 < b {
         return 64;
     }
-    if 127 < b {
-        return 64;
+    if is_second(q, p) {
+        return 0;
     }
-    if q % 4 == 0 {
-        if p % 4 != 0 {
-            return 0;
-        }
-        if b % 4 == 0 {
-            return 64;
-        }
-    }
-    1
+    if q % 4 == 0 && b % 4 == 0 { 64 } else { 1 }
 }
 
 // The bytes at one place of the three rows together, for each of the sixteen places.
