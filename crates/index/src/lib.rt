@@ -17,27 +17,21 @@ use query::ListAnswer;
 pub fn clear_table(table: &mut [u32])
     ensures { table.new ≡ replicate (length table.old) 0 }
 {
-    let mut i = 0;
-    while i < table.len() {
-        table[i] = 0;
-        i += 1;
-    }
+    table.fill(0);
 }
 
 // Starts an index: clears the table and the counters and leaves the arena alone.
+#[tactic(auto, unfolding(ledger::specs::Calls::cleared))]
 pub fn report_index_start(table: &mut [u32], counters: &mut Counters)
     ensures { (table.new ≡ (cleared (memory [] table.old counters.old)).table)
         × (counters.new ≡ (cleared (memory [] table.old counters.old)).counters) }
 {
     clear_table(table);
-    *counters = Counters {
-        used: 0,
-        terms: 0,
-        reports: 0,
-    };
+    *counters = Counters::default();
 }
 
 // Takes a report: the refusal (0 for none) and the report's number.
+#[tactic(auto, unfolding(ingest::specs::Report::taken_of))]
 pub fn report_index_report(
     arena: &mut [u8],
     table: &mut [u32],
