@@ -2,7 +2,7 @@
 // of calls. The stored questions and the expected answers are written by the Rust reference (rust/reference), which shares no code with the functions under test.
 #![tactic(auto)]
 
-ghost use Rattle.std.specs.Prelude.{IfOk, ◌≡◌, false, ◌+◌, ◌<◌, ◌≤◌, length};
+ghost use Rattle.std.specs.Prelude.{IfOk, IfSome, ◌≡◌, false, ◌+◌, ◌<◌, ◌≤◌, length};
 ghost use Rattle.terms.specs.Terms.{max_term};
 ghost use Rattle.frames.specs.Frames.{first_term, terms, passes_end, bad_term};
 
@@ -280,6 +280,16 @@ fn chain(rt: &impl Print, payload: &[u8]) -> io::Result<()> {
 
 // ---- lists of calls
 
+// Some bytes behind two with their number, and all behind these; none where they are fewer.
+fn cut<'a>(s: &'a [u8]) -> Option<(&'a [u8], &'a [u8])>
+    ensures { IfSome result (λ (a, b). length b.now < length s.now) }
+{
+    let [high, low, behind @ ..] = s else {
+        return None;
+    };
+    behind.split_at_checked(usize::from(*high) * 256 + usize::from(*low))
+}
+
 // Two bytes as a number.
 fn read_pair(s: &[u8], at: usize) -> usize
     requires { at + 2 ≤ length s.now }
@@ -357,45 +367,31 @@ fn call(
     Ok(k)
 }
 
-// The calls from place 5 on: a null byte for a start, else the kind, two bytes of length and the frame.
+// The calls one after another: a null byte for a start, else the kind, two bytes of length and the frame.
 fn run_calls(
     rt: &impl Print,
     arena: &mut [u8],
     table: &mut [u32],
-    payload: &[u8],
+    calls: &[u8],
     places: usize,
 ) -> io::Result<Counters>
     requires { places ≤ 256 }
 {
-    let mut k = Counters {
-        used: 0,
-        terms: 0,
-        reports: 0,
-    };
-    let mut at: usize = 5;
-    while at < payload.len() {
-        let kind = payload[at];
-        if kind == 0 {
+    let mut k = Counters::default();
+    let mut left = calls;
+    while let [kind, behind @ ..] = left {
+        left = behind;
+        if *kind == 0 {
             index::clear_table(table);
-            k = Counters {
-                used: 0,
-                terms: 0,
-                reports: 0,
-            };
+            k = Counters::default();
             print(rt, " S")?;
-            at += 1;
-        } else {
-            let from = at + 3;
-            if payload.len() < from {
-                return Ok(k);
-            }
-            let to = from + read_pair(payload, at + 1);
-            if payload.len() < to {
-                return Ok(k);
-            }
-            k = call(rt, arena, table, k, kind, &payload[from..to], places)?;
-            at = to;
+            continue;
         }
+        let Some((frame, others)) = cut(behind) else {
+            break;
+        };
+        k = call(rt, arena, table, k, *kind, frame, places)?;
+        left = others;
     }
     Ok(k)
 }
@@ -416,12 +412,12 @@ fn calls_on(
     rt: &impl Print,
     arena: &mut [u8],
     table: &mut [u32],
-    payload: &[u8],
+    calls: &[u8],
     places: usize,
 ) -> io::Result<()>
     requires { places ≤ 256 }
 {
-    let k = run_calls(rt, arena, table, payload, places)?;
+    let k = run_calls(rt, arena, table, calls, places)?;
     print(rt, " |")?;
     print_word(rt, k.used)?;
     print_word(rt, k.terms)?;
@@ -450,7 +446,7 @@ fn calls(rt: &impl Print, payload: &[u8]) -> io::Result<()> {
         rt,
         &mut arena[..bytes],
         &mut table[..entries],
-        payload,
+        &payload[5..],
         places,
     )
 }
@@ -470,37 +466,20 @@ fn answer(rt: &impl Print, sort: u8, payload: &[u8]) -> io::Result<()> {
 }
 
 // A question: its sort, the two-byte length of its payload, the payload.
-fn answer_all(rt: &impl Print, s: &[u8]) -> io::Result<()> {
-    let mut at: usize = 0;
-    while at + 3 <= s.len() {
-        let from = at + 3;
-        let to = from + usize::from(s[at + 1]) * 256 + usize::from(s[at + 2]);
-        if s.len() < to {
-            return Ok(());
-        }
-        answer(rt, s[at], &s[from..to])?;
-        at = to;
+fn answer_all(rt: &impl Print, questions: &[u8]) -> io::Result<()> {
+    let mut left = questions;
+    while let [sort, behind @ ..] = left {
+        let Some((payload, others)) = cut(behind) else {
+            break;
+        };
+        answer(rt, *sort, payload)?;
+        left = others;
     }
     Ok(())
 }
 
-// Fills the buffer from standard input, or up to the input's end, and tells how many bytes were read.
-fn read_full(rt: &HostRuntime, into: &mut [u8]) -> io::Result<usize>
-    ensures { IfOk result (λ n. n ≤ length into.old) }
-{
-    let mut n: usize = 0;
-    while n < into.len() {
-        let got = rt.stdin().read(&mut into[n..])?;
-        if got == 0 {
-            break;
-        }
-        n += got;
-    }
-    Ok(n)
-}
-
 fn main(rt: HostRuntime) -> io::Result<()> {
-    let mut questions = [0u8; 131072];
-    let n = read_full(&rt, &mut questions)?;
-    answer_all(&rt, &questions[..n])
+    let mut questions = Vec::new(rt.alloc());
+    rt.stdin().read_to_end(&mut questions)?;
+    answer_all(&rt, &questions)
 }
