@@ -7,7 +7,6 @@ use mathlib.Core.Logic.{◌⊎◌, inl, inr}
 use native.Mathlib.Omega.{arith}
 use lib.ListN.{length}
 use Rattle.postings.proofs.Laws.{decoded_held}
-use Rattle.postings.specs.declared.Decoded.{Decoded}
 use Rattle.sums.specs.declared.Sum.{Sum}
 use Rattle.sums.specs.Adding.{sum_of, further, add_from, added_to}
 use Rattle.sums.proofs.Adding as sums

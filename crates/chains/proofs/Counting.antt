@@ -1,22 +1,22 @@
 -- The loop that reads a chain whole: n postings up to `number` are counted, and what is left decides.
 -- Assumes nothing.
-use Prim.Native.Nat.{ℕ, zero, suc, ◌+◌, ◌-◌, ◌≤◌, ◌<◌}
+use Prim.Native.Nat.{ℕ, suc, ◌+◌, ◌-◌, ◌≤◌, ◌<◌}
 use mathlib.Core.Path.{◌≡◌, refl, sym, ap, subst, ◌∙◌}
-use mathlib.Core.Bool.{Bool, true, false, cond, ◌&&◌, ◌||◌}
+use mathlib.Core.Bool.{Bool, true, false, cond, ◌&&◌}
 use mathlib.Core.List.{List}
 use Rattle.std.specs.Prelude.{Option, Some, None}
 use native.Mathlib.Omega.{arith}
 use native.Mathlib.Nat.{add-zero, zero-add}
-use lib.Dec.{leb, eqb}
-use lib.ListN.{length, get_or, drop}
-use borrow.Author.Tests.{le-leb, lt-leb, eq-eqb, ne_eqb}
+use lib.Dec.{eqb}
+use lib.ListN.{length, drop}
+use borrow.Author.Tests.{eq-eqb}
 use Rattle.basics.proofs.Cases.{by-lt}
-use Rattle.postings.specs.Coding.{posting, decoded}
+use Rattle.postings.specs.Coding.{decoded}
 use Rattle.postings.specs.declared.Decoded.{Decoded}
 use Rattle.postings.proofs.Laws.{decoded-within}
 use Rattle.blocks.specs.declared.Head.{Head}
 use Rattle.blocks.specs.Prescribed.{Posting}
-use Rattle.blocks.specs.Fields.{block_size, head_fixed, link_size, place, link_of, head_of, part_of}
+use Rattle.blocks.specs.Fields.{place, link_of, head_of, part_of}
 use Rattle.chains.specs.declared.Cursor.{Cursor}
 use Rattle.chains.specs.declared.PartRead.{PartRead}
 use Rattle.chains.specs.Chains.{Stepped, stepped, at_end, damage, part_end, exhausted, given, read_at, entered, next_block, step_at, Reading, damaged, whole, onto, follow, run, at_head, bad_head, last_from, agreeing, chain_of, is_whole, Follows}

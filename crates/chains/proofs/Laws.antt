@@ -8,7 +8,7 @@ use Rattle.std.specs.Prelude.{Some, None, Ok, Err}
 use native.Mathlib.Omega.{arith}
 use lib.Dec.{leb, eqb}
 use lib.ListN.{length}
-use borrow.Author.Tests.{ltb-false, leb-false, eqb-true, eq-eqb}
+use borrow.Author.Tests.{ltb-false, leb-false, eqb-true}
 use Rattle.basics.proofs.Lists.{or_left, or_right, and_left, and_right}
 use Rattle.basics.proofs.Cases.{by-lt, by-eq}
 use Rattle.blocks.specs.declared.Head.{Head}
@@ -16,7 +16,6 @@ use Rattle.blocks.specs.Fields.{block_size, link_size, place, link_of, head_of, 
 use Rattle.blocks.specs.Prescribed.{Posting}
 use Rattle.blocks.proofs.Fields.{part_own, part_other}
 use Rattle.chains.specs.declared.Cursor.{Cursor}
-use Rattle.chains.specs.declared.Step.{Step}
 use Rattle.chains.specs.Chains.{Stepped as Outcome, stepped, at_end, damage, exhausted, entered, next_block, step_at, Reading, damaged, whole, onto, follow, run, at_head, bad_head, last_from, agreeing, chain_of, is_whole, Follows}
 use Rattle.chains.proofs.Steps.{Gave, read_gave, next-none, next_out, next-at, step_empty, step_end, step_next, step_here}
 

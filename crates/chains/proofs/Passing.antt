@@ -1,22 +1,21 @@
 -- Reading on in a part: it goes on exactly where a posting can be passed, and stops where none can.
 -- Assumes nothing.
 use Prim.Native.Nat.{ℕ, zero, suc, ◌+◌, ◌≤◌, ◌<◌}
-use mathlib.Core.Path.{◌≡◌, refl, sym, ap, ◌∙◌}
+use mathlib.Core.Path.{◌≡◌, refl, sym, ◌∙◌}
 use mathlib.Core.Bool.{Bool, true, false, cond, ◌&&◌}
 use mathlib.Core.List.{List}
 use Rattle.std.specs.Prelude.{Option, Some, None}
 use mathlib.Core.Logic.{◌⊎◌, inl, inr}
 use native.Mathlib.Omega.{arith}
 use lib.Dec.{ltb}
-use lib.ListN.{length, drop, length-drop, drop_of_length-le}
+use lib.ListN.{length, drop, length-drop}
 use borrow.Author.Tests.{lt-ltb, le-ltb, le-leb, lt-leb}
 use Rattle.basics.proofs.Cases.{by-lt}
 use Rattle.postings.specs.Coding.{posting, decoded}
 use Rattle.postings.specs.declared.Decoded.{Decoded}
-use Rattle.postings.proofs.Laws.{decoded-within, decoded-nil}
+use Rattle.postings.proofs.Laws.{decoded-within}
 use Rattle.sums.specs.Adding.{Bounded}
 use Rattle.sums.proofs.Adding.{bounded_here, bounded_on}
-use Rattle.chains.specs.declared.PartRead.{PartRead}
 use Rattle.chains.specs.declared.Passed.{Passed}
 use Rattle.chains.specs.Parts.{behind, onward, pass_from, passed, opened, part_read}
 

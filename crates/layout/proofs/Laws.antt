@@ -13,10 +13,10 @@ use Rattle.blocks.specs.Prescribed.{Posting}
 use Rattle.chains.specs.Chains.{whole, last_from, chain_of}
 use Rattle.layout.specs.Chains.{After}
 use Rattle.layout.specs.Held.{postings_of, head_no, head_for}
-use Rattle.layout.specs.Index.{Index, term_at, used_of, Linked, Keeps, Image, grown, joined, with_term, with_posting}
+use Rattle.layout.specs.Index.{Index, term_at, used_of, Linked, Keeps, Image, joined, with_term, with_posting}
 use Rattle.layout.specs.Claims.{Fields, Onward, ReadsBack}
 use Rattle.layout.proofs.Held.{nos-closed}
-use Rattle.layout.proofs.Linked.{mine, other, keeps-posting, linked-posting, keeps-term, linked-term, linked-empty}
+use Rattle.layout.proofs.Linked.{keeps-posting, linked-posting, keeps-term, linked-term, linked-empty}
 use Rattle.layout.proofs.Standing.{Standing, head-is, name_is, tail_link}
 use Rattle.layout.proofs.Image.{standing, image-empty}
 use Rattle.layout.proofs.Append.{append-length, image-posting}
@@ -103,20 +103,9 @@ module _ (a : List ℕ) (ix : Index) (im : Image a ix) (l : Linked ix) where
       (keeps-posting ix i p hi)
       (append-length a (head_no (term_at ix i)) (used_of ix) p.number p.count)
 
--- ---- what a posting more does to the terms and to the blocks in use
+-- ---- what a posting more does to the number of terms and to the blocks in use
 
 module _ (ix : Index) (i : ℕ) (p : Posting) where
-  -- the term has the posting more
-  pub mine_posting : i < length ix.terms → term_at (with_posting ix i p) i
-      ≡ grown (fits (head_for (term_at ix i)) p.number p.count) (used_of ix) (term_at ix i) p
-  unfolding with_posting
-  mine_posting h = mine (fits (head_for (term_at ix i)) p.number p.count) ix i p h
-
-  -- every other term is as it was
-  pub other_posting : i < length ix.terms → (m : ℕ) → (m ≡ i → ⊥) → term_at (with_posting ix i p) m ≡ term_at ix m
-  unfolding with_posting
-  other_posting h m ne = other (fits (head_for (term_at ix i)) p.number p.count) ix i p h m ne
-
   pub terms-posting : length (with_posting ix i p).terms ≡ length ix.terms
   unfolding with_posting
   terms-posting = simp length-set
