@@ -127,15 +127,7 @@ module _ (a : List ℕ) (used reports h : ℕ) {d : Head} (q : d ≡ head_of a h
 
 -- behind what was read of the cursor's part
 abbrev pub after : Cursor → PartRead → Cursor
-after k r = record {
-  tail = k.tail;
-  end = k.end;
-  block = k.block;
-  at = r.rest.at;
-  number = r.rest.number;
-  first = r.first;
-  left = k.left;
-}
+after k r = record k { at = r.rest.at; number = r.rest.number; first = r.first }
 
 -- the cursor's part was read: its postings are counted, and behind them comes the part's end or damage
 pub record Read (a : List ℕ) (used reports h : ℕ) (d : Head) (c : Cursor) (n : ℕ) : Type 0 where
@@ -211,7 +203,7 @@ module _ {a : List ℕ} {used reports h : ℕ} {d : Head} {k : Cursor} {base n :
       let o = passed part reports (k.at + m.length) (base + m.gap) reports in
       let j : n + (1 + o.postings) ≡ n + 1 + o.postings = omega arith in
       subst
-      (λ (x : ℕ). Read a used reports h d (record { tail = k.tail; end = k.end; block = k.block; at = o.at; number = o.number; first = x; left = k.left }) (n + (1 + o.postings)))
+      (λ (x : ℕ). Read a used reports h d (record k { at = o.at; number = o.number; first = x }) (n + (1 + o.postings)))
       f
       (record {
         begun = z.begun;

@@ -68,15 +68,7 @@ part_within a b at to g f l e = omega (arith, simp length-take at (decoded-withi
 
 -- the cursor past a posting of l bytes with number n
 abbrev pub past : Cursor → ℕ → ℕ → Cursor
-past c n l = record {
-  tail = c.tail;
-  end = c.end;
-  block = c.block;
-  at = c.at + l;
-  number = n;
-  first = cond (eqb c.first 0) n c.first;
-  left = c.left;
-}
+past c n l = record c { at = c.at + l; number = n; first = cond (eqb c.first 0) n c.first }
 
 module _ (reports : ℕ) (c : Cursor) (base : ℕ) where
   pub given-none : given reports c base None ≡ damage

@@ -42,16 +42,7 @@ unfoldable pub given : ℕ → Cursor → ℕ → Option Decoded → Stepped
 given reports c base (Some d) =
     let n = base + d.gap in
     cond (ltb c.number n && leb n reports)
-    (stepped n d.count (record {
-      tail = c.tail;
-      end = c.end;
-      block = c.block;
-      at = c.at + d.length;
-      number = n;
-      first = cond (eqb c.first 0) n c.first;
-      left = c.left;
-    }))
-    damage
+    (stepped n d.count (record c { at = c.at + d.length; number = n; first = cond (eqb c.first 0) n c.first })) damage
 given reports c base None = damage
 
 unfoldable pub read_at : List ℕ → ℕ → Cursor → ℕ → Stepped
@@ -59,15 +50,7 @@ read_at a reports c base = given reports c base (decoded (part_of a c.block c.at
 
 -- the start of block b, behind the one at the cursor
 unfoldable pub entered : Cursor → ℕ → Cursor
-entered c b = record {
-  tail = c.tail;
-  end = c.end;
-  block = b;
-  at = link_size;
-  number = c.number;
-  first = 0;
-  left = c.left - 1;
-}
+entered c b = record c { block = b; at = link_size; first = 0; left = c.left - 1 }
 
 -- the next block: damage if it is not used, or there are more blocks than used. Its first posting carries a b-gap
 unfoldable pub next_block : List ℕ → ℕ → ℕ → Cursor → Stepped

@@ -45,15 +45,7 @@ part_read part reports at base = opened part reports at base (decoded (drop at p
 
 -- another offset in the same block, behind the posting of number n
 abbrev pub moved_to : Cursor → ℕ → ℕ → Cursor
-moved_to c at n = record {
-  tail = c.tail;
-  end = c.end;
-  block = c.block;
-  at = at;
-  number = n;
-  first = c.first;
-  left = c.left;
-}
+moved_to c at n = record c { at = at; number = n }
 
 -- the cursor behind what is passed of its block's part
 unfoldable pub passed_to : List ℕ → ℕ → Cursor → ℕ → Cursor
