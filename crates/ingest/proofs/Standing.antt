@@ -137,9 +137,9 @@ module _ (l : Lines) where
         stands = rw here (stands_nth f l.sound n p.0);
         nth = sym (p.3 ∙ get_or-inside l.hashes.now n hash 0 p.1);
         hashed = p.3
-        ∙ ap (λ (hs : List ℕ). get_or hs n hash) l.hashed
-        ∙ get_or-map (λ (i : ℕ). fnv1a (folded_at f i)) (lines f) n 0 hash p.0
-        ∙ ap (λ (i : ℕ). fnv1a (folded_at f i)) (sym here);
+            ∙ ap (λ (hs : List ℕ). get_or hs n hash) l.hashed
+            ∙ get_or-map (λ (i : ℕ). fnv1a (folded_at f i)) (lines f) n 0 hash p.0
+            ∙ ap (λ (i : ℕ). fnv1a (folded_at f i)) (sym here);
       }
 
 -- ---- going over the lines along with their hashes, and with what is kept for each
@@ -172,8 +172,8 @@ module _ (l : Lines) (kept : List ℕ) where
   module _ {s : Zip (Zip Cursors (Iter ℕ)) (Iter ℕ)} (w : Along l kept s) (xs : List ((Cursor × Bor ℕ) × Bor ℕ)) (t : Zip (Zip Cursors (Iter ℕ)) (Iter ℕ))
       (y : Yields entries_go s xs t) (r : Option ((Cursor × Bor ℕ) × Bor ℕ)) (u : Zip (Zip Cursors (Iter ℕ)) (Iter ℕ)) (g : entries_go t r u) where
     -- a turn: a line with its hash, and what is kept for it
-    pub entry_turn : (c : Cursor) (h x : Bor ℕ) → r ≡ Some ((c, h), x) → InHand l.frame.now l.hashes.now (length xs) c.at h.now × (x.now ≡ get_or kept (length xs) 0)
-    entry_turn c h x i =
+    pub entry_turn : {c : Cursor} {h x : Bor ℕ} → r ≡ Some ((c, h), x) → InHand l.frame.now l.hashes.now (length xs) c.at h.now × (x.now ≡ get_or kept (length xs) 0)
+    entry_turn {c} {h} {x} i =
         let turn = YieldsList-turn w xs t y r u ((c, h), x) i g in
         let both = zip_nth (zip (lines l.frame.now) l.hashes.now) kept (length xs) turn.0 turn.1 in
         (in_hand l (length xs) both.0 both.2, both.3 ∙ get_or-inside kept (length xs) x.now 0 both.1)
@@ -214,8 +214,8 @@ module _ (l : Lines) where
 
   module _ {s : Enumerate (Zip Cursors (Iter ℕ))} (w : Counted l s) (xs : List (ℕ × (Cursor × Bor ℕ))) (t : Enumerate (Zip Cursors (Iter ℕ)))
       (y : Yields counted_go s xs t) (r : Option (ℕ × (Cursor × Bor ℕ))) (u : Enumerate (Zip Cursors (Iter ℕ))) (g : counted_go t r u) where
-    pub counted_turn : (n : ℕ) (c : Cursor) (h : Bor ℕ) → r ≡ Some (n, (c, h)) → InHand l.frame.now l.hashes.now (length xs) c.at h.now × (n ≡ length xs)
-    counted_turn n c h i =
+    pub counted_turn : {n : ℕ} {c : Cursor} {h : Bor ℕ} → r ≡ Some (n, (c, h)) → InHand l.frame.now l.hashes.now (length xs) c.at h.now × (n ≡ length xs)
+    counted_turn {n} {c} {h} i =
         let turn = YieldsList-turn w xs t y r u (n, (c, h)) i g in
         let both = enumerate_nth (zip (lines l.frame.now) l.hashes.now) 0 (length xs) turn.0 turn.1 in
         (in_hand l (length xs) both.0 both.2, omega (arith, both.1))

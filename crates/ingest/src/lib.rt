@@ -146,7 +146,13 @@ impl Plan {
 // The places of all lines on the memory as it is. The first slots of all lines, and then the heads that they lead to, are asked for before the
 // first is compared: their loads miss the caches, and so they overlap. `kept` first has the entries of these slots; an entry stays there for its
 // line's turn where the term was found right there, else it becomes 0, which no entry that leads to a head is.
-fn plan_lines(arena: &[u8], table: &[u32], k: Counters, lines: Lines, kept: &mut [u32]) -> Result<Plan, Refusal>
+fn plan_lines(
+    arena: &[u8],
+    table: &[u32],
+    k: Counters,
+    lines: Lines,
+    kept: &mut [u32],
+) -> Result<Plan, Refusal>
     requires { Room arena.now k × (max_lines ≤ length kept.old) }
     ensures plan { Plans (lines_plan (memory arena.now table.now k) (report_lines lines.entry.frame.now)) result }
     ensures kept { OnOk result (Kept (memory arena.now table.now k) lines.entry.frame.now kept.new) }
@@ -155,7 +161,10 @@ fn plan_lines(arena: &[u8], table: &[u32], k: Counters, lines: Lines, kept: &mut
     let mut lengths = [0u8; 820];
     lookup::first_entries(table, lines.hashes, count, kept);
     lookup::first_lengths(arena, k.used, kept, count, &mut lengths);
-    let mut plan = Plan { terms: 0, blocks: 0 };
+    let mut plan = Plan {
+        terms: 0,
+        blocks: 0,
+    };
     for (n, (c, hash)) in Cursors::lines(lines.frame).zip(lines.hashes).enumerate() {
         let entry = kept[n];
         let name = c.name(lines.frame, lines.names);
@@ -196,7 +205,13 @@ fn mark_tail(marks: &mut [bool; 1024], h: u32, tail: u32)
 
 // A line of a known term, judged afresh: its posting goes into the tail, or where it does not fit there into the next block. The head that is
 // judged is the one that is written to, so it is read once. Table and term have no part in this.
-fn append_line(arena: &mut [u8], k: Counters, h: u32, count: u32, marks: &mut [bool; 1024]) -> Result<Counters, Stopped>
+fn append_line(
+    arena: &mut [u8],
+    k: Counters,
+    h: u32,
+    count: u32,
+    marks: &mut [bool; 1024],
+) -> Result<Counters, Stopped>
     requires { Room arena.old k × (h < k.used) }
     ensures line { (t w : List ℕ) → k.terms ≤ max_terms t → wrote arena.new t result ≡ write_one (memory arena.old t k) (k.reports + 1) (line_of w count) (place_at arena.old k count h) }
     ensures marked { marks.new ≡ marking arena.old marks.old (place_at arena.old k count h) }
@@ -304,7 +319,16 @@ fn write_lines(
     let mut left = k;
     for ((c, hash), entry) in Cursors::lines(lines.frame).zip(lines.hashes).zip(kept) {
         let name = c.name(lines.frame, lines.names);
-        left = write_line(arena, table, left, name, *hash, c.count(lines.frame), *entry, &mut marks)?;
+        left = write_line(
+            arena,
+            table,
+            left,
+            name,
+            *hash,
+            c.count(lines.frame),
+            *entry,
+            &mut marks,
+        )?;
     }
     Ok(left)
 }
@@ -312,7 +336,13 @@ fn write_lines(
 // ---- the call
 
 // Refusals 8 to 12 of a sound frame. Where none holds, what its lines keep is in `kept`.
-fn judge_report(arena: &[u8], table: &[u32], k: Counters, lines: Lines, kept: &mut [u32]) -> Result<(), Refusal>
+fn judge_report(
+    arena: &[u8],
+    table: &[u32],
+    k: Counters,
+    lines: Lines,
+    kept: &mut [u32],
+) -> Result<(), Refusal>
     requires { max_lines ≤ length kept.old }
     ensures refused { refused_under result ≡ call_refusal (memory arena.now table.now k) lines.entry.frame.now }
     ensures kept { OnOk result (Kept (memory arena.now table.now k) lines.entry.frame.now kept.new) }

@@ -22,8 +22,8 @@ returns-then-max_terms-k c =
     sym (one-stops m (a.k.reports + 1) (line_of a.name.now a.count) (Ok (New a.slot)) (λ z.
     let room = new_room m a.slot z in
     elim c.then-max_terms-k.branch [
-      then-max_terms-k-via-then-max_terms-k w ↦ omega (arith, room.1)
-    | then-max_terms-k-via-else-max_terms-k+then-capacity_of-k w ↦ omega (arith, room.0)
+      | then-max_terms-k-via-then-max_terms-k w ↦ omega (arith, room.1)
+      | then-max_terms-k-via-else-max_terms-k+then-capacity_of-k w ↦ omega (arith, room.0)
     ]))
 
 pub open_head-requires : goal.open_head-requires

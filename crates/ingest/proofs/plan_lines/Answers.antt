@@ -39,22 +39,22 @@ loop-n-init c =
 
 pub bounds-kept-n : goal.bounds-kept-n
 bounds-kept-n c =
-    let t = counted_turn c.args.lines c.loop-n.invariant.counted c.loop-n.yielded c.loop-n.n-iterator c.loop-n.yielded_by c.next.result c.next.new.self c.next.ensures.steps c.in-Some.n c.in-Some.c c.in-Some.hash c.in-Some.is in
+    let t = counted_turn c.args.lines c.loop-n.invariant.counted _ _ c.loop-n.yielded_by _ c.next.new.self c.next.ensures.steps c.in-Some.is in
     omega (arith, t.1, t.0.counted, c.args.lines.few, c.requires.1)
 
 pub name-name-requires : goal.name-name-requires
 name-name-requires c =
-    let t = counted_turn c.args.lines c.loop-n.invariant.counted c.loop-n.yielded c.loop-n.n-iterator c.loop-n.yielded_by c.next.result c.next.new.self c.next.ensures.steps c.in-Some.n c.in-Some.c c.in-Some.hash c.in-Some.is in
+    let t = counted_turn c.args.lines c.loop-n.invariant.counted _ _ c.loop-n.yielded_by _ c.next.new.self c.next.ensures.steps c.in-Some.is in
     (stands_term t.0.stands t.0.counted, c.args.lines.folded)
 
 pub bounds-lengths-n : goal.bounds-lengths-n
 bounds-lengths-n c =
-    let t = counted_turn c.args.lines c.loop-n.invariant.counted c.loop-n.yielded c.loop-n.n-iterator c.loop-n.yielded_by c.next.result c.next.new.self c.next.ensures.steps c.in-Some.n c.in-Some.c c.in-Some.hash c.in-Some.is in
+    let t = counted_turn c.args.lines c.loop-n.invariant.counted _ _ c.loop-n.yielded_by _ c.next.new.self c.next.ensures.steps c.in-Some.is in
     omega (arith, t.1, t.0.counted, c.args.lines.few)
 
 pub find_from-found-requires : goal.find_from-found-requires
 find_from-found-requires c =
-    let t = counted_turn c.args.lines c.loop-n.invariant.counted c.loop-n.yielded c.loop-n.n-iterator c.loop-n.yielded_by c.next.result c.next.new.self c.next.ensures.steps c.in-Some.n c.in-Some.c c.in-Some.hash c.in-Some.is in
+    let t = counted_turn c.args.lines c.loop-n.invariant.counted _ _ c.loop-n.yielded_by _ c.next.new.self c.next.ensures.steps c.in-Some.is in
     let a = c.args in
     let n = length c.loop-n.yielded in
     let h = inside t.0.stands t.0.counted in
@@ -71,12 +71,12 @@ find_from-found-requires c =
 
 pub bounds-kept-n-in-loop-n : goal.bounds-kept-n-in-loop-n
 bounds-kept-n-in-loop-n c =
-    let t = counted_turn c.args.lines c.loop-n.invariant.counted c.loop-n.yielded c.loop-n.n-iterator c.loop-n.yielded_by c.next.result c.next.new.self c.next.ensures.steps c.in-Some.n c.in-Some.c c.in-Some.hash c.in-Some.is in
+    let t = counted_turn c.args.lines c.loop-n.invariant.counted _ _ c.loop-n.yielded_by _ c.next.new.self c.next.ensures.steps c.in-Some.is in
     omega (arith, t.1, t.0.counted, c.args.lines.few, c.requires.1)
 
 pub returns-in_err-found-clause-plan : goal.returns-in_err-found-clause-plan
 returns-in_err-found-clause-plan c =
-    let t = counted_turn c.args.lines c.loop-n.invariant.counted c.loop-n.yielded c.loop-n.n-iterator c.loop-n.yielded_by c.next.result c.next.new.self c.next.ensures.steps c.in-Some.n c.in-Some.c c.in-Some.hash c.in-Some.is in
+    let t = counted_turn c.args.lines c.loop-n.invariant.counted _ _ c.loop-n.yielded_by _ c.next.new.self c.next.ensures.steps c.in-Some.is in
     let m = memory c.args.arena.now c.args.table.now c.args.k in
     let f = c.args.lines.frame.now in
     let p = err_from_is_err_and c.from_residual.result c.from_residual.ensures.1 in
@@ -85,7 +85,7 @@ returns-in_err-found-clause-plan c =
 
 pub count-requires : goal.count-requires
 count-requires c =
-    let t = counted_turn c.args.lines c.loop-n.invariant.counted c.loop-n.yielded c.loop-n.n-iterator c.loop-n.yielded_by c.next.result c.next.new.self c.next.ensures.steps c.in-Some.n c.in-Some.c c.in-Some.hash c.in-Some.is in
+    let t = counted_turn c.args.lines c.loop-n.invariant.counted _ _ c.loop-n.yielded_by _ c.next.new.self c.next.ensures.steps c.in-Some.is in
     stands_field t.0.stands t.0.counted
 
 pub place_found-requires : goal.place_found-requires
@@ -95,7 +95,7 @@ place_found-requires c =
 
 pub returns-in_err-place_found-clause-plan : goal.returns-in_err-place_found-clause-plan
 returns-in_err-place_found-clause-plan c =
-    let t = counted_turn c.args.lines c.loop-n.invariant.counted c.loop-n.yielded c.loop-n.n-iterator c.loop-n.yielded_by c.next.result c.next.new.self c.next.ensures.steps c.in-Some.n c.in-Some.c c.in-Some.hash c.in-Some.is in
+    let t = counted_turn c.args.lines c.loop-n.invariant.counted _ _ c.loop-n.yielded_by _ c.next.new.self c.next.ensures.steps c.in-Some.is in
     let m = memory c.args.arena.now c.args.table.now c.args.k in
     let f = c.args.lines.frame.now in
     let p = err_from_is_err_and c.from_residual-in_err-place_found.result c.from_residual-in_err-place_found.ensures.1 in
@@ -105,13 +105,13 @@ returns-in_err-place_found-clause-plan c =
 
 pub with-plan-requires : goal.with-plan-requires
 with-plan-requires c =
-    let t = counted_turn c.args.lines c.loop-n.invariant.counted c.loop-n.yielded c.loop-n.n-iterator c.loop-n.yielded_by c.next.result c.next.new.self c.next.ensures.steps c.in-Some.n c.in-Some.c c.in-Some.hash c.in-Some.is in
+    let t = counted_turn c.args.lines c.loop-n.invariant.counted _ _ c.loop-n.yielded_by _ c.next.new.self c.next.ensures.steps c.in-Some.is in
     let w = c.loop-n.invariant.plan in
     (omega (arith, w.few_terms, t.0.counted, c.args.lines.few), omega (arith, w.few_blocks, t.0.counted, c.args.lines.few))
 
 pub loop-n-preserved : goal.loop-n-preserved
 loop-n-preserved c =
-    let t = counted_turn c.args.lines c.loop-n.invariant.counted c.loop-n.yielded c.loop-n.n-iterator c.loop-n.yielded_by c.next.result c.next.new.self c.next.ensures.steps c.in-Some.n c.in-Some.c c.in-Some.hash c.in-Some.is in
+    let t = counted_turn c.args.lines c.loop-n.invariant.counted _ _ c.loop-n.yielded_by _ c.next.new.self c.next.ensures.steps c.in-Some.is in
     let m = memory c.args.arena.now c.args.table.now c.args.k in
     let f = c.args.lines.frame.now in
     let n = length c.loop-n.yielded in
@@ -128,18 +128,18 @@ loop-n-preserved c =
     record {
       counted = v.counted;
       plan = rw (length_push, c.with-plan.ensures)
-      (planned_more v.plan c.in-Some.c.at (lines_more t.0.stands t.0.counted) (place ∙ sym c.place_found.ensures ∙ c.in_ok-place_found.was));
+          (planned_more v.plan c.in-Some.c.at (lines_more t.0.stands t.0.counted) (place ∙ sym c.place_found.ensures ∙ c.in_ok-place_found.was));
       keeps = rw (length_push, t.1)
-      (keeps_more v.keeps c.first_hit.result (omega (arith, t.0.counted, c.args.lines.few, c.requires.1))
-      (hit ∙ read_kept m f c.in-Some.c.at c.name-name.ensures ∙ sym (kept_nth m f n (stands_here t.0.stands t.0.counted))));
+          (keeps_more v.keeps c.first_hit.result (omega (arith, t.0.counted, c.args.lines.few, c.requires.1))
+          (hit ∙ read_kept m f c.in-Some.c.at c.name-name.ensures ∙ sym (kept_nth m f n (stands_here t.0.stands t.0.counted))));
     }
 
 pub returns-clause-plan : goal.returns-clause-plan
 returns-clause-plan c =
-    let end = counted_end c.args.lines c.loop-n.invariant.counted c.loop-n.yielded c.loop-n.n-iterator c.loop-n.yielded_by c.next.result c.next.new.self c.next.ensures.steps c.in-None.is in
+    let end = counted_end c.args.lines c.loop-n.invariant.counted _ _ c.loop-n.yielded_by _ c.next.new.self c.next.ensures.steps c.in-None.is in
     (planned_end c.loop-n.invariant.plan (lines_done c.args.lines.frame.now _ (omega arith)), omega (arith, c.loop-n.invariant.plan.few_terms, c.args.lines.few))
 
 pub returns-clause-kept : goal.returns-clause-kept
 returns-clause-kept c =
-    let end = counted_end c.args.lines c.loop-n.invariant.counted c.loop-n.yielded c.loop-n.n-iterator c.loop-n.yielded_by c.next.result c.next.new.self c.next.ensures.steps c.in-None.is in
+    let end = counted_end c.args.lines c.loop-n.invariant.counted _ _ c.loop-n.yielded_by _ c.next.new.self c.next.ensures.steps c.in-None.is in
     keeps-all c.loop-n.invariant.keeps (omega arith)

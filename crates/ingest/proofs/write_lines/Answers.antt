@@ -29,12 +29,12 @@ loop-c-init c =
 
 pub name-name-requires : goal.name-name-requires
 name-name-requires c =
-    let t = entry_turn c.args.lines c.args.kept.now c.loop-c.invariant.along c.loop-c.yielded c.loop-c.c-iterator c.loop-c.yielded_by c.next.result c.next.new.self c.next.ensures.steps c.in-Some.c c.in-Some.hash c.in-Some.entry c.in-Some.is in
+    let t = entry_turn c.args.lines c.args.kept.now c.loop-c.invariant.along _ _ c.loop-c.yielded_by _ c.next.new.self c.next.ensures.steps c.in-Some.is in
     (stands_term t.0.stands t.0.counted, c.args.lines.folded)
 
 pub count-requires : goal.count-requires
 count-requires c =
-    let t = entry_turn c.args.lines c.args.kept.now c.loop-c.invariant.along c.loop-c.yielded c.loop-c.c-iterator c.loop-c.yielded_by c.next.result c.next.new.self c.next.ensures.steps c.in-Some.c c.in-Some.hash c.in-Some.entry c.in-Some.is in
+    let t = entry_turn c.args.lines c.args.kept.now c.loop-c.invariant.along _ _ c.loop-c.yielded_by _ c.next.new.self c.next.ensures.steps c.in-Some.is in
     stands_field t.0.stands t.0.counted
 
 pub write_line-requires : goal.write_line-requires
@@ -42,7 +42,7 @@ write_line-requires c =
     let a = c.args in
     let f = a.lines.frame.now in
     let m = memory a.arena.now a.table.now a.k in
-    let t = entry_turn c.args.lines c.args.kept.now c.loop-c.invariant.along c.loop-c.yielded c.loop-c.c-iterator c.loop-c.yielded_by c.next.result c.next.new.self c.next.ensures.steps c.in-Some.c c.in-Some.hash c.in-Some.entry c.in-Some.is in
+    let t = entry_turn c.args.lines c.args.kept.now c.loop-c.invariant.along _ _ c.loop-c.yielded_by _ c.next.new.self c.next.ensures.steps c.in-Some.is in
     let s = t.0.stands in
     let short : length c.name-name.result.now ≤ max_term = rw c.name-name.ensures (sound-name s.sound (inside s t.0.counted)) in
     let line = line_of c.name-name.result.now c.count.result in
@@ -51,13 +51,13 @@ write_line-requires c =
       short,
       rw c.name-name.ensures t.0.hashed,
       λ low z. kept_found c.loop-c.invariant.lasts c.requires.0 line short _
-      (t.1 ∙ c.requires.2.each _ t.0.counted ∙ kept_nth m f _ (stands_here s t.0.counted) ∙ ap (kept_of m) (sym is)) low z,
+          (t.1 ∙ c.requires.2.each _ t.0.counted ∙ kept_nth m f _ (stands_here s t.0.counted) ∙ ap (kept_of m) (sym is)) low z,
     )
 
 pub returns-in_err-left : goal.returns-in_err-left
 returns-in_err-left c =
     let f = c.args.lines.frame.now in
-    let t = entry_turn c.args.lines c.args.kept.now c.loop-c.invariant.along c.loop-c.yielded c.loop-c.c-iterator c.loop-c.yielded_by c.next.result c.next.new.self c.next.ensures.steps c.in-Some.c c.in-Some.hash c.in-Some.entry c.in-Some.is in
+    let t = entry_turn c.args.lines c.args.kept.now c.loop-c.invariant.along _ _ c.loop-c.yielded_by _ c.next.new.self c.next.ensures.steps c.in-Some.is in
     let p = err_from_is_err_and c.from_residual.result c.from_residual.ensures.1 in
     rw (p.1, p.2)
     (wrote_stop c.loop-c.invariant.wrote c.in-Some.c.at (lines_more t.0.stands t.0.counted) (read-line f c.in-Some.c.at c.name-name.ensures c.count.ensures) c.in_err-left.ensures.line refl)
@@ -66,17 +66,17 @@ pub loop-c-preserved : goal.loop-c-preserved
 loop-c-preserved c =
     let f = c.args.lines.frame.now in
     let v = c.loop-c.invariant in
-    let t = entry_turn c.args.lines c.args.kept.now c.loop-c.invariant.along c.loop-c.yielded c.loop-c.c-iterator c.loop-c.yielded_by c.next.result c.next.new.self c.next.ensures.steps c.in-Some.c c.in-Some.hash c.in-Some.entry c.in-Some.is in
+    let t = entry_turn c.args.lines c.args.kept.now c.loop-c.invariant.along _ _ c.loop-c.yielded_by _ c.next.new.self c.next.ensures.steps c.in-Some.is in
     let q = c.in_ok-left.ensures.line in
     record {
       along = v.along;
       wrote = rw length_push
-      (wrote_more v.wrote c.in-Some.c.at (lines_more t.0.stands t.0.counted) (read-line f c.in-Some.c.at c.name-name.ensures c.count.ensures) q refl);
+          (wrote_more v.wrote c.in-Some.c.at (lines_more t.0.stands t.0.counted) (read-line f c.in-Some.c.at c.name-name.ensures c.count.ensures) q refl);
       lasts = rw c.write_line.ensures.marked (lasts_more v.lasts (line_of c.name-name.result.now c.count.result) q);
     }
 
 pub returns : goal.returns
 returns c =
     let a = c.args.lines in
-    let end = entries_end a c.args.kept.now c.loop-c.invariant.along c.loop-c.yielded c.loop-c.c-iterator c.loop-c.yielded_by c.next.result c.next.new.self c.next.ensures.steps c.in-None.is (omega (arith, a.few, c.requires.1)) in
+    let end = entries_end a c.args.kept.now c.loop-c.invariant.along _ _ c.loop-c.yielded_by _ c.next.new.self c.next.ensures.steps c.in-None.is (omega (arith, a.few, c.requires.1)) in
     wrote_end c.loop-c.invariant.wrote (lines_done a.frame.now _ end)
