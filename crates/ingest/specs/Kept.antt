@@ -1,8 +1,9 @@
 -- What is kept of the searches that were made before writing, so that most lines need no second search at their turn.
-use Rattle.std.specs.Prelude.{ℕ, ◌%◌, ◌<◌, ◌≡◌, Ok, Err, Bool, true, cond, List, eqb, length, get_or, set}
+use Rattle.std.specs.Prelude.{ℕ, ◌-◌, ◌%◌, ◌<◌, ◌≡◌, Ok, Err, Bool, true, false, cond, List, eqb, length, get_or, set}
 use Rattle.terms.specs.Terms.{fnv1a}
 use Rattle.frames.specs.Frames.{Line, lines, line_at}
 use Rattle.blocks.specs.Fields.{head_of}
+use Rattle.lookup.specs.declared.Found.TheVariants.{At}
 use Rattle.lookup.specs.Lookup.{search, first_entry, first_hit}
 use Rattle.counters.specs.Counters.{Memory}
 use Rattle.ingest.specs.declared.Place.TheVariants.{New, Stays, Spills}
@@ -37,3 +38,8 @@ marking a marks (Ok (New s)) = marks
 marking a marks (Ok (Stays h)) = mark_tail marks h (head_of a h).tail
 marking a marks (Ok (Spills h)) = marks
 marking a marks (Err r) = marks
+
+-- where an entry was kept for the term w and its head is not marked, a search ends there
+abbrev pub KeptRight : List ℕ → ℕ → List ℕ → List ℕ → ℕ → List Bool → Type 0
+KeptRight a used table w kept marks =
+    0 < kept → get_or marks (mark_of (kept - 1)) false ≡ false → search a used table w ≡ Ok (At (kept - 1))

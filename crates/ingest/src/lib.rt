@@ -1,18 +1,17 @@
 // Taking a report: all lines are judged before a byte is written.
 #![tactic(auto)]
 
-ghost use Rattle.std.specs.Prelude.{◌≡◌, List, ℕ, Ok, OnOk, OnErr, IfOk, false, ◌+◌, ◌-◌, ◌≤◌, ◌<◌, length, get_or};
+ghost use Rattle.std.specs.Prelude.{◌≡◌, List, ℕ, Ok, OnOk, OnErr, IfOk, ◌+◌, ◌-◌, ◌≤◌, ◌<◌, length};
 ghost use Rattle.terms.specs.Terms.{max_term, fnv1a};
 ghost use Rattle.frames.specs.Frames.{max_body, lines, report_refusal, report_lines};
 ghost use Rattle.frames.specs.Read.{Folds, hashes_of, max_lines};
 ghost use Rattle.frames.specs.Refusals.{first_of};
 ghost use Rattle.blocks.specs.Fields.{max_word, place};
-ghost use Rattle.lookup.specs.declared.Found.TheVariants.{At};
 ghost use Rattle.lookup.specs.Lookup.{slots, search};
 ghost use Rattle.counters.specs.Counters.{memory, max_terms};
 ghost use Rattle.refusals.specs.Numbers.{number_of, refused_under};
 ghost use Rattle.ingest.specs.Report.{line_of, damaged_head, place_at, placed, place_of, plan_rows, lines_plan, write_lines, call_refusal, report_call, taken_of};
-ghost use Rattle.ingest.specs.Kept.{Kept, mark_of, mark_tail, marking};
+ghost use Rattle.ingest.specs.Kept.{Kept, mark_tail, marking, KeptRight};
 ghost use Rattle.ingest.specs.Needs.{Room, HeadIs, Below, Held, with_place, needed, Plans, write_one, wrote, refused_with};
 ghost use Rattle.ingest.specs.declared.Place.TheVariants.{New};
 
@@ -36,7 +35,8 @@ pub struct Taken {
     pub counters: Counters,
 }
 
-// Where a line goes: a new term into an empty slot, a posting that fits in the tail of a head's chain, one that does not.
+// Where a line goes: a new term into an empty slot, a posting that fits in the tail of a head's chain, or one that does
+// not.
 #[derive(Clone, Copy)]
 pub enum Place {
     New(u32),
@@ -67,6 +67,17 @@ struct Lines<'a> {
     ghost folded: { Folds frame.now names.now },
     ghost hashed: { hashes.now ≡ hashes_of frame.now (lines frame.now) },
     ghost few: { length (lines frame.now) ≤ max_lines },
+}
+
+// A line at its turn: its folded term with the hash of that, its count, and the entry that is kept for it, 0 for none.
+#[derive(Clone, Copy)]
+struct Turn<'a> {
+    name: &'a [u8],
+    hash: u32,
+    count: u32,
+    kept: u32,
+    ghost short: { length name.now ≤ max_term },
+    ghost hashed: { hash ≡ fnv1a name.now },
 }
 
 // ---- where a line goes
@@ -124,7 +135,11 @@ fn place_found(arena: &[u8], k: Counters, found: Found, count: u32) -> Result<Pl
 
 impl Plan {
     // The plan with a line more.
-    #[tactic(auto, unfolding(crate::specs::Needs::with_place, crate::specs::Report::terms_for, crate::specs::Report::blocks_for))]
+    #[tactic(auto, unfolding(
+        crate::specs::Needs::with_place,
+        crate::specs::Report::terms_for,
+        crate::specs::Report::blocks_for,
+    ))]
     fn with(self, p: Place) -> Plan
         requires { (self.terms < max_word) × (self.blocks < max_word) }
         ensures { result ≡ with_place self p }
@@ -143,9 +158,10 @@ impl Plan {
     }
 }
 
-// The places of all lines on the memory as it is. The first slots of all lines, and then the heads that they lead to, are asked for before the
-// first is compared: their loads miss the caches, and so they overlap. `kept` first has the entries of these slots; an entry stays there for its
-// line's turn where the term was found right there, else it becomes 0, which no entry that leads to a head is.
+// The places of all lines on the memory as it is. The first slots of all lines, and then the heads that they lead to, are
+// asked for before the first is compared: their loads miss the caches, and so they overlap. `kept` first has the entries
+// of these slots; an entry stays there for its line's turn where the term was found right there, else it becomes 0, which
+// stands for none as it does in the table.
 fn plan_lines(
     arena: &[u8],
     table: &[u32],
@@ -192,8 +208,8 @@ fn has_room(arena: &[u8], table: &[u32], k: Counters, plan: Plan) -> Result<(), 
 
 // ---- writing
 
-// Marks a tail that a posting was put into, unless it is the chain's head: in a damaged arena it may be another term's head, which may now hold
-// another name.
+// Marks a tail that a posting was put into, unless it is the chain's head: in a damaged arena it may be another term's
+// head, which may now hold another name. Each mark serves many blocks, so that a fixed number of them is enough.
 #[tactic(auto, unfolding(crate::specs::Kept::mark_tail))]
 fn mark_tail(marks: &mut [bool; 1024], h: u32, tail: u32)
     ensures { marks.new ≡ mark_tail marks.old h tail }
@@ -203,8 +219,8 @@ fn mark_tail(marks: &mut [bool; 1024], h: u32, tail: u32)
     }
 }
 
-// A line of a known term, judged afresh: its posting goes into the tail, or where it does not fit there into the next block. The head that is
-// judged is the one that is written to, so it is read once. Table and term have no part in this.
+// A line of a known term, judged afresh: its posting goes into the tail, or where it does not fit there into the next
+// block. The head that is judged is the one that is written to, so it is read once. Table and term have no part in this.
 fn append_line(
     arena: &mut [u8],
     k: Counters,
@@ -213,7 +229,9 @@ fn append_line(
     marks: &mut [bool; 1024],
 ) -> Result<Counters, Stopped>
     requires { Room arena.old k × (h < k.used) }
-    ensures line { (t w : List ℕ) → k.terms ≤ max_terms t → wrote arena.new t result ≡ write_one (memory arena.old t k) (k.reports + 1) (line_of w count) (place_at arena.old k count h) }
+    ensures line { (t w : List ℕ) → k.terms ≤ max_terms t
+        → wrote arena.new t result
+        ≡ write_one (memory arena.old t k) (k.reports + 1) (line_of w count) (place_at arena.old k count h) }
     ensures marked { marks.new ≡ marking arena.old marks.old (place_at arena.old k count h) }
 {
     let number = k.reports + 1;
@@ -235,22 +253,23 @@ fn append_line(
     })
 }
 
-// A line of a new term, judged afresh: its head, entered into the empty slot met. Where the table has no slot none was met, and no term may be held.
+// A line of a new term, judged afresh: its head, entered into the empty slot met. Where the table has no slot none was
+// met, and no term may be held.
 fn open_line(
     arena: &mut [u8],
     table: &mut [u32],
     k: Counters,
-    name: &[u8],
-    count: u32,
+    line: Turn,
     slot: u32,
 ) -> Result<Counters, Stopped>
-    requires { Room arena.old k × (length name.now ≤ max_term) × (0 < slots table.old → slot < slots table.old) }
-    ensures { wrote arena.new table.new result ≡ write_one (memory arena.old table.old k) (k.reports + 1) (line_of name.now count) (Ok (New slot)) }
+    requires { Room arena.old k × (0 < slots table.old → slot < slots table.old) }
+    ensures { let l = line_of line.entry.name.now line.entry.count in
+        wrote arena.new table.new result ≡ write_one (memory arena.old table.old k) (k.reports + 1) l (Ok (New slot)) }
 {
     if counters::max_terms(table) <= k.terms || blocks::capacity_of(arena) == k.used {
         return Err(Stopped { left: k });
     }
-    blocks::open_head(arena, k.used, name, k.reports + 1, count);
+    blocks::open_head(arena, k.used, line.name, k.reports + 1, line.count);
     lookup::enter_at(table, slot, k.used);
     Ok(Counters {
         used: k.used + 1,
@@ -259,27 +278,26 @@ fn open_line(
     })
 }
 
-// Looks a line's term up again at its turn. The head that a kept entry leads to still holds the term unless it is marked, so that the search is left
-// out there.
+// Looks a line's term up again at its turn. The head that a kept entry leads to still holds the term unless it is marked,
+// so that the search is left out there.
 fn find_again(
     arena: &[u8],
     used: u32,
     table: &[u32],
-    name: &[u8],
-    hash: u32,
-    entry: u32,
+    line: Turn,
     marks: &[bool; 1024],
 ) -> Result<Found, Refusal>
-    requires { (place used ≤ length arena.now) × (length name.now ≤ max_term) × (hash ≡ fnv1a name.now) × (0 < entry → get_or marks.now (mark_of (entry - 1)) false ≡ false → search arena.now used table.now name.now ≡ Ok (At (entry - 1))) }
-    ensures { result ≡ search arena.now used table.now name.now }
+    requires { (place used ≤ length arena.now)
+        × KeptRight arena.now used table.now line.name.now line.kept marks.now }
+    ensures { result ≡ search arena.now used table.now line.entry.name.now }
 {
-    if 0 < entry {
-        let h = entry - 1;
+    if 0 < line.kept {
+        let h = line.kept - 1;
         if !marks[(h % 1024) as usize] {
             return Ok(Found::At(h));
         }
     }
-    lookup::find(arena, used, table, name, hash)
+    lookup::find(arena, used, table, line.name, line.hash)
 }
 
 // One line, judged afresh when its turn comes.
@@ -287,19 +305,20 @@ fn write_line(
     arena: &mut [u8],
     table: &mut [u32],
     k: Counters,
-    name: &[u8],
-    hash: u32,
-    count: u32,
-    entry: u32,
+    line: Turn,
     marks: &mut [bool; 1024],
 ) -> Result<Counters, Stopped>
-    requires { Held arena.old table.old k × (length name.now ≤ max_term) × (hash ≡ fnv1a name.now) × (0 < entry → get_or marks.old (mark_of (entry - 1)) false ≡ false → search arena.old k.used table.old name.now ≡ Ok (At (entry - 1))) }
-    ensures line { wrote arena.new table.new result ≡ write_one (memory arena.old table.old k) (k.reports + 1) (line_of name.now count) (place_of (memory arena.old table.old k) (line_of name.now count)) }
-    ensures marked { marks.new ≡ marking arena.old marks.old (place_of (memory arena.old table.old k) (line_of name.now count)) }
+    requires { Held arena.old table.old k × KeptRight arena.old k.used table.old line.name.now line.kept marks.old }
+    ensures line { let m = memory arena.old table.old k in
+        let l = line_of line.entry.name.now line.entry.count in
+        wrote arena.new table.new result ≡ write_one m (k.reports + 1) l (place_of m l) }
+    ensures marked { let m = memory arena.old table.old k in
+        let l = line_of line.entry.name.now line.entry.count in
+        marks.new ≡ marking arena.old marks.old (place_of m l) }
 {
-    match find_again(arena, k.used, table, name, hash, entry, marks) {
-        Ok(Found::Unknown(slot)) => open_line(arena, table, k, name, count, slot),
-        Ok(Found::At(h)) => append_line(arena, k, h, count, marks),
+    match find_again(arena, k.used, table, line, marks) {
+        Ok(Found::Unknown(slot)) => open_line(arena, table, k, line, slot),
+        Ok(Found::At(h)) => append_line(arena, k, h, line.count, marks),
         Err(_) => Err(Stopped { left: k }),
     }
 }
@@ -312,23 +331,21 @@ fn write_lines(
     lines: Lines,
     kept: &[u32],
 ) -> Result<Counters, Stopped>
-    requires { Held arena.old table.old k × (max_lines ≤ length kept.now) × Kept (memory arena.old table.old k) lines.frame.now kept.now }
-    ensures { wrote arena.new table.new result ≡ write_lines (memory arena.old table.old k) (k.reports + 1) (report_lines lines.entry.frame.now) }
+    requires { let m = memory arena.old table.old k in
+        Held arena.old table.old k × (max_lines ≤ length kept.now) × Kept m lines.frame.now kept.now }
+    ensures { wrote arena.new table.new result
+        ≡ write_lines (memory arena.old table.old k) (k.reports + 1) (report_lines lines.entry.frame.now) }
 {
     let mut marks = [false; 1024];
     let mut left = k;
-    for ((c, hash), entry) in Cursors::lines(lines.frame).zip(lines.hashes).zip(kept) {
-        let name = c.name(lines.frame, lines.names);
-        left = write_line(
-            arena,
-            table,
-            left,
-            name,
-            *hash,
-            c.count(lines.frame),
-            *entry,
-            &mut marks,
-        )?;
+    for ((c, hash), kept) in Cursors::lines(lines.frame).zip(lines.hashes).zip(kept) {
+        let line = Turn {
+            name: c.name(lines.frame, lines.names),
+            hash: *hash,
+            count: c.count(lines.frame),
+            kept: *kept,
+        };
+        left = write_line(arena, table, left, line, &mut marks)?;
     }
     Ok(left)
 }

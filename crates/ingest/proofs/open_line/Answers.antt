@@ -19,7 +19,7 @@ pub returns-then-max_terms-k : goal.returns-then-max_terms-k
 returns-then-max_terms-k c =
     let a = c.args in
     let m = memory a.arena.now a.table.now a.k in
-    sym (one-stops m (a.k.reports + 1) (line_of a.name.now a.count) (Ok (New a.slot)) (λ z.
+    sym (one-stops m (a.k.reports + 1) (line_of a.line.name.now a.line.count) (Ok (New a.slot)) (λ z.
     let room = new_room m a.slot z in
     elim c.then-max_terms-k.branch [
       | then-max_terms-k-via-then-max_terms-k w ↦ omega (arith, room.1)
@@ -29,12 +29,12 @@ returns-then-max_terms-k c =
 pub open_head-requires : goal.open_head-requires
 open_head-requires c =
     let block : c.args.k.used < capacity c.args.arena.now = omega (arith, c.requires.0.inside) in
-    (c.requires.1, omega arith, next-inside c.args.arena.now c.args.k.used block)
+    (c.args.line.short, omega arith, next-inside c.args.arena.now c.args.k.used block)
 
 pub enter_at-requires : goal.enter_at-requires
 enter_at-requires c =
     let table = c.args.table.now in
-    let free = c.requires.2 (max_terms-slots table (omega arith)) in
+    let free = c.requires.1 (max_terms-slots table (omega arith)) in
     (omega (arith, free, slots_le table), omega (arith, c.requires.0.inside, capacity-word c.args.arena.now))
 
 pub returns : goal.returns
@@ -43,4 +43,4 @@ returns c =
     let a = c.args in
     let m = memory a.arena.now a.table.now a.k in
     rw (c.enter_at.ensures, c.open_head.ensures)
-    (sym (one_written m (a.k.reports + 1) (line_of a.name.now a.count) (Ok (New a.slot)) (new_passes m a.slot (omega (arith, c.requires.0.inside)) (omega arith))))
+    (sym (one_written m (a.k.reports + 1) (line_of a.line.name.now a.line.count) (Ok (New a.slot)) (new_passes m a.slot (omega (arith, c.requires.0.inside)) (omega arith))))

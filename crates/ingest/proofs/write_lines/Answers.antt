@@ -27,8 +27,8 @@ loop-c-init c =
       lasts = lasts_none m _ (length-replicate {A = Bool} mark_count false);
     }
 
-pub name-name-requires : goal.name-name-requires
-name-name-requires c =
+pub name-requires : goal.name-requires
+name-requires c =
     let t = entry_turn c.args.lines c.args.kept.now c.loop-c.invariant.along _ _ c.loop-c.yielded_by _ c.next.new.self c.next.ensures.steps c.in-Some.is in
     (stands_term t.0.stands t.0.counted, c.args.lines.folded)
 
@@ -37,6 +37,14 @@ count-requires c =
     let t = entry_turn c.args.lines c.args.kept.now c.loop-c.invariant.along _ _ c.loop-c.yielded_by _ c.next.new.self c.next.ensures.steps c.in-Some.is in
     stands_field t.0.stands t.0.counted
 
+pub invariant_of-line : goal.invariant_of-line
+invariant_of-line c =
+    let t = entry_turn c.args.lines c.args.kept.now c.loop-c.invariant.along _ _ c.loop-c.yielded_by _ c.next.new.self c.next.ensures.steps c.in-Some.is in
+    record {
+      short = rw c.name.ensures (sound-name t.0.stands.sound (inside t.0.stands t.0.counted));
+      hashed = rw c.name.ensures t.0.hashed;
+    }
+
 pub write_line-requires : goal.write_line-requires
 write_line-requires c =
     let a = c.args in
@@ -44,14 +52,12 @@ write_line-requires c =
     let m = memory a.arena.now a.table.now a.k in
     let t = entry_turn c.args.lines c.args.kept.now c.loop-c.invariant.along _ _ c.loop-c.yielded_by _ c.next.new.self c.next.ensures.steps c.in-Some.is in
     let s = t.0.stands in
-    let short : length c.name-name.result.now ≤ max_term = rw c.name-name.ensures (sound-name s.sound (inside s t.0.counted)) in
-    let line = line_of c.name-name.result.now c.count.result in
-    let is : line ≡ line_at f c.in-Some.c.at = read-line f c.in-Some.c.at c.name-name.ensures c.count.ensures in (
+    let short : length c.name.result.now ≤ max_term = rw c.name.ensures (sound-name s.sound (inside s t.0.counted)) in
+    let line = line_of c.name.result.now c.count.result in
+    let is : line ≡ line_at f c.in-Some.c.at = read-line f c.in-Some.c.at c.name.ensures c.count.ensures in (
       c.loop-c.invariant.wrote.held,
-      short,
-      rw c.name-name.ensures t.0.hashed,
       λ low z. kept_found c.loop-c.invariant.lasts c.requires.0 line short _
-          (t.1 ∙ c.requires.2.each _ t.0.counted ∙ kept_nth m f _ (stands_here s t.0.counted) ∙ ap (kept_of m) (sym is)) low z,
+      (t.1 ∙ c.requires.2.each _ t.0.counted ∙ kept_nth m f _ (stands_here s t.0.counted) ∙ ap (kept_of m) (sym is)) low z,
     )
 
 pub returns-in_err-left : goal.returns-in_err-left
@@ -60,7 +66,7 @@ returns-in_err-left c =
     let t = entry_turn c.args.lines c.args.kept.now c.loop-c.invariant.along _ _ c.loop-c.yielded_by _ c.next.new.self c.next.ensures.steps c.in-Some.is in
     let p = err_from_is_err_and c.from_residual.result c.from_residual.ensures.1 in
     rw (p.1, p.2)
-    (wrote_stop c.loop-c.invariant.wrote c.in-Some.c.at (lines_more t.0.stands t.0.counted) (read-line f c.in-Some.c.at c.name-name.ensures c.count.ensures) c.in_err-left.ensures.line refl)
+    (wrote_stop c.loop-c.invariant.wrote c.in-Some.c.at (lines_more t.0.stands t.0.counted) (read-line f c.in-Some.c.at c.name.ensures c.count.ensures) c.in_err-left.ensures.line refl)
 
 pub loop-c-preserved : goal.loop-c-preserved
 loop-c-preserved c =
@@ -71,8 +77,8 @@ loop-c-preserved c =
     record {
       along = v.along;
       wrote = rw length_push
-          (wrote_more v.wrote c.in-Some.c.at (lines_more t.0.stands t.0.counted) (read-line f c.in-Some.c.at c.name-name.ensures c.count.ensures) q refl);
-      lasts = rw c.write_line.ensures.marked (lasts_more v.lasts (line_of c.name-name.result.now c.count.result) q);
+          (wrote_more v.wrote c.in-Some.c.at (lines_more t.0.stands t.0.counted) (read-line f c.in-Some.c.at c.name.ensures c.count.ensures) q refl);
+      lasts = rw c.write_line.ensures.marked (lasts_more v.lasts (line_of c.name.result.now c.count.result) q);
     }
 
 pub returns : goal.returns
