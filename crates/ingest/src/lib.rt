@@ -1,7 +1,7 @@
 // Taking a report: all lines are judged before a byte is written.
 #![tactic(auto)]
 
-ghost use Rattle.std.specs.Prelude.{◌≡◌, List, ℕ, Ok, OnOk, OnErr, IfOk, ◌+◌, ◌-◌, ◌≤◌, ◌<◌, length};
+ghost use Rattle.std.specs.Prelude.{◌≡◌, List, ℕ, Ok, OnOk, OnErr, IfOk, ◌+◌, ◌-◌, ◌≤◌, ◌<◌, length, get_or};
 ghost use Rattle.terms.specs.Terms.{max_term, fnv1a};
 ghost use Rattle.frames.specs.Frames.{max_body, lines, report_refusal, report_lines};
 ghost use Rattle.frames.specs.Read.{Folds, hashes_of, max_lines};
@@ -82,52 +82,66 @@ struct Turn<'a> {
 
 // ---- where a line goes
 
-// Damage of a known term when a report is taken. The tail's first number is read once the tail is known to be used.
-#[tactic(auto, unfolding(crate::specs::Report::damaged_head))]
-fn is_damaged(arena: &[u8], k: Counters, h: u32, d: Head) -> bool
-    requires { Room arena.now k × (h < k.used) × (d.length < 256) }
-    ensures { result ≡ damaged_head arena.now k h d }
-{
-    if chains::is_bad_head(d, k.used, h) {
-        return true;
-    }
-    let first = blocks::link_of(arena, d.tail);
-    k.reports < d.last || k.reports < first || k.reports < d.postings
+// An arena with its counters, past refusals 8 and 9: the used blocks lie in it, and another report can be numbered. What a
+// slice knows of its bytes is not known of a field, so it is said.
+#[derive(Clone, Copy)]
+struct Arena<'a> {
+    bytes: &'a [u8],
+    k: Counters,
+    ghost fits: { (i : ℕ) → get_or bytes.now i 0 < 256 },
+    ghost room: { Room bytes.now k },
 }
 
-// The fields of a known term's head, which is not damaged.
-fn sound_head(arena: &[u8], k: Counters, h: u32) -> Result<Head, Refusal>
-    requires { Room arena.now k × (h < k.used) }
-    ensures { HeadIs arena.now k h result }
-{
-    let d = blocks::head_of(arena, h);
-    if is_damaged(arena, k, h, d) {
-        return Err(Refusal::Damaged);
+impl Arena<'_> {
+    // Damage of a known term when a report is taken. The tail's first number is read once the tail is known to be used.
+    #[tactic(auto, unfolding(crate::specs::Report::damaged_head))]
+    fn is_damaged(self, h: u32, d: Head) -> bool
+        requires { (h < self.k.used) × (d.length < 256) }
+        ensures { result ≡ damaged_head self.entry.bytes.now self.entry.k h d }
+    {
+        if chains::is_bad_head(d, self.k.used, h) {
+            return true;
+        }
+        let first = blocks::link_of(self.bytes, d.tail);
+        let reports = self.k.reports;
+        reports < d.last || reports < first || reports < d.postings
     }
-    Ok(d)
-}
 
-#[tactic(auto, unfolding(crate::specs::Report::place_at))]
-fn place_at(arena: &[u8], k: Counters, count: u32, h: u32) -> Result<Place, Refusal>
-    requires { Room arena.now k × (h < k.used) }
-    ensures { result ≡ place_at arena.now k count h }
-{
-    let d = sound_head(arena, k, h)?;
-    if blocks::fits_in(d, k.reports + 1, count) {
-        return Ok(Place::Stays(h));
+    // The fields of a known term's head, which is not damaged.
+    fn sound_head(self, h: u32) -> Result<Head, Refusal>
+        requires { h < self.k.used }
+        ensures { HeadIs self.entry.bytes.now self.entry.k h result }
+    {
+        let d = blocks::head_of(self.bytes, h);
+        if self.is_damaged(h, d) {
+            return Err(Refusal::Damaged);
+        }
+        Ok(d)
     }
-    Ok(Place::Spills(h))
-}
 
-// The place of a line, by what the search for its term found.
-#[tactic(auto, unfolding(crate::specs::Report::placed))]
-fn place_found(arena: &[u8], k: Counters, found: Found, count: u32) -> Result<Place, Refusal>
-    requires { Room arena.now k × Below k.used found }
-    ensures { result ≡ placed arena.now k count (Ok found) }
-{
-    match found {
-        Found::Unknown(s) => Ok(Place::New(s)),
-        Found::At(h) => place_at(arena, k, count, h),
+    // The place of a known term's line.
+    #[tactic(auto, unfolding(crate::specs::Report::place_at))]
+    fn place_at(self, count: u32, h: u32) -> Result<Place, Refusal>
+        requires { h < self.k.used }
+        ensures { result ≡ place_at self.entry.bytes.now self.entry.k count h }
+    {
+        let d = self.sound_head(h)?;
+        if blocks::fits_in(d, self.k.reports + 1, count) {
+            return Ok(Place::Stays(h));
+        }
+        Ok(Place::Spills(h))
+    }
+
+    // The place of a line, by what the search for its term found.
+    #[tactic(auto, unfolding(crate::specs::Report::placed))]
+    fn place_found(self, found: Found, count: u32) -> Result<Place, Refusal>
+        requires { Below self.k.used found }
+        ensures { result ≡ placed self.entry.bytes.now self.entry.k count (Ok found) }
+    {
+        match found {
+            Found::Unknown(s) => Ok(Place::New(s)),
+            Found::At(h) => self.place_at(count, h),
+        }
     }
 }
 
@@ -135,11 +149,7 @@ fn place_found(arena: &[u8], k: Counters, found: Found, count: u32) -> Result<Pl
 
 impl Plan {
     // The plan with a line more.
-    #[tactic(auto, unfolding(
-        crate::specs::Needs::with_place,
-        crate::specs::Report::terms_for,
-        crate::specs::Report::blocks_for,
-    ))]
+    #[tactic(auto, unfolding(crate::specs::Needs::with_place, crate::specs::Report::terms_for, crate::specs::Report::blocks_for,))]
     fn with(self, p: Place) -> Plan
         requires { (self.terms < max_word) × (self.blocks < max_word) }
         ensures { result ≡ with_place self p }
@@ -162,21 +172,19 @@ impl Plan {
 // asked for before the first is compared: their loads miss the caches, and so they overlap. `kept` first has the entries
 // of these slots; an entry stays there for its line's turn where the term was found right there, else it becomes 0, which
 // stands for none as it does in the table.
-fn plan_lines(
-    arena: &[u8],
-    table: &[u32],
-    k: Counters,
-    lines: Lines,
-    kept: &mut [u32],
-) -> Result<Plan, Refusal>
-    requires { Room arena.now k × (max_lines ≤ length kept.old) }
-    ensures plan { Plans (lines_plan (memory arena.now table.now k) (report_lines lines.entry.frame.now)) result }
-    ensures kept { OnOk result (Kept (memory arena.now table.now k) lines.entry.frame.now kept.new) }
+fn plan_lines(arena: Arena, table: &[u32], lines: Lines, kept: &mut [u32]) -> Result<Plan, Refusal>
+    requires { max_lines ≤ length kept.old }
+    ensures plan { let m = memory arena.entry.bytes.now table.now arena.entry.k in
+        Plans (lines_plan m (report_lines lines.entry.frame.now)) result }
+    ensures kept { let m = memory arena.entry.bytes.now table.now arena.entry.k in
+        OnOk result (Kept m lines.entry.frame.now kept.new) }
 {
+    let bytes = arena.bytes;
+    let used = arena.k.used;
     let count = lines.hashes.len();
     let mut lengths = [0u8; 820];
     lookup::first_entries(table, lines.hashes, count, kept);
-    lookup::first_lengths(arena, k.used, kept, count, &mut lengths);
+    lookup::first_lengths(bytes, used, kept, count, &mut lengths);
     let mut plan = Plan {
         terms: 0,
         blocks: 0,
@@ -184,23 +192,24 @@ fn plan_lines(
     for (n, (c, hash)) in Cursors::lines(lines.frame).zip(lines.hashes).enumerate() {
         let entry = kept[n];
         let name = c.name(lines.frame, lines.names);
-        let found = lookup::find_from(arena, k.used, table, name, *hash, entry, lengths[n]);
+        let found = lookup::find_from(bytes, used, table, name, *hash, entry, lengths[n]);
         kept[n] = lookup::first_hit(found, entry);
-        plan = plan.with(place_found(arena, k, found?, c.count(lines.frame))?);
+        plan = plan.with(arena.place_found(found?, c.count(lines.frame))?);
     }
     Ok(plan)
 }
 
 // Refusals 11 and 12 for what the lines need.
 #[tactic(auto, unfolding(crate::specs::Report::plan_rows, frames::specs::Refusals::first_of))]
-fn has_room(arena: &[u8], table: &[u32], k: Counters, plan: Plan) -> Result<(), Refusal>
-    requires { Held arena.now table.now k × (plan.terms ≤ max_body) }
-    ensures { refused_under result ≡ first_of (plan_rows (memory arena.now table.now k) (needed plan)) }
+fn has_room(arena: Arena, table: &[u32], plan: Plan) -> Result<(), Refusal>
+    requires { (arena.k.terms ≤ max_terms table.now) × (plan.terms ≤ max_body) }
+    ensures { let m = memory arena.entry.bytes.now table.now arena.entry.k in
+        refused_under result ≡ first_of (plan_rows m (needed plan)) }
 {
-    if counters::max_terms(table) < k.terms + plan.terms {
+    if counters::max_terms(table) < arena.k.terms + plan.terms {
         return Err(Refusal::TableFull);
     }
-    if blocks::capacity_of(arena) - k.used < plan.blocks {
+    if blocks::capacity_of(arena.bytes) - arena.k.used < plan.blocks {
         return Err(Refusal::ArenaFull);
     }
     Ok(())
@@ -235,7 +244,8 @@ fn append_line(
     ensures marked { marks.new ≡ marking arena.old marks.old (place_at arena.old k count h) }
 {
     let number = k.reports + 1;
-    let Ok(d) = sound_head(arena, k, h) else {
+    let read = Arena { bytes: arena, k };
+    let Ok(d) = read.sound_head(h) else {
         return Err(Stopped { left: k });
     };
     if blocks::fits_in(d, number, count) {
@@ -370,8 +380,9 @@ fn judge_report(
     if k.reports == u32::MAX {
         return Err(Refusal::NumbersSpent);
     }
-    let plan = plan_lines(arena, table, k, lines, kept)?;
-    has_room(arena, table, k, plan)
+    let arena = Arena { bytes: arena, k };
+    let plan = plan_lines(arena, table, lines, kept)?;
+    has_room(arena, table, plan)
 }
 
 // Refusals 1 to 12, before a byte is written; else what writing the lines comes to.

@@ -3,5 +3,5 @@ use native.Mathlib.Omega.{arith}
 use Rattle.counters.proofs.Laws.{max_terms_small}
 use Rattle.ingest.proofs.has_room.Goals as goal
 
-pub overflow_add-k : goal.overflow_add-k
-overflow_add-k c = omega (arith, max_terms_small c.args.table.now, c.requires.0.few, c.requires.1)
+pub overflow_add-arena : goal.overflow_add-arena
+overflow_add-arena c = omega (arith, max_terms_small c.args.table.now, c.requires.0, c.requires.1)

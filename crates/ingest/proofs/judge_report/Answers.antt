@@ -22,11 +22,11 @@ returns-then-k-eq4294967295-clause-refused c =
     let m = memory c.args.arena.now c.args.table.now c.args.k in
     sym (call-last m c.args.lines.frame.now c.args.lines.sound (sym c.are_wrong.ensures ∙ c.if-are_wrong.false) c.if-k-eq4294967295.true)
 
-pub plan_lines-requires : goal.plan_lines-requires
-plan_lines-requires c =
+pub invariant_of-arena : goal.invariant_of-arena
+invariant_of-arena c =
     let m = memory c.args.arena.now c.args.table.now c.args.k in
     let fine = right m.arena m.table m.counters (sym c.are_wrong.ensures ∙ c.if-are_wrong.false) in
-    ((held_right m fine c.if-k-eq4294967295.false (omega arith)).room, c.requires)
+    record { fits = λ i. (c.type_inv.arena i).fits; room = (held_right m fine c.if-k-eq4294967295.false (omega arith)).room }
 
 pub returns-in_err-plan-clause-refused : goal.returns-in_err-plan-clause-refused
 returns-in_err-plan-clause-refused c =
@@ -41,7 +41,7 @@ pub has_room-requires : goal.has_room-requires
 has_room-requires c =
     let m = memory c.args.arena.now c.args.table.now c.args.k in
     let fine = right m.arena m.table m.counters (sym c.are_wrong.ensures ∙ c.if-are_wrong.false) in
-    (held_right m fine c.if-k-eq4294967295.false (omega arith), c.in_ok-plan.ensures.plan.1)
+    (fine.few, c.in_ok-plan.ensures.plan.1)
 
 pub returns-clause-refused : goal.returns-clause-refused
 returns-clause-refused c =

@@ -10,6 +10,6 @@ use Rattle.ingest.proofs.plan_lines.Given as goal
 abbrev pub invariant-loop-n : goal.invariant-loop-n
 invariant-loop-n l = record {
   counted : Counted l.lines l.initial.n-iterator;
-  plan : Planned (memory l.arena l.table l.k) l.lines.frame.now l.plan (length l.yielded);
-  keeps : Keeps (memory l.arena l.table l.k) l.lines.frame.now l.initial.kept l.kept (length l.yielded);
+  plan : Planned (memory l.arena.bytes.now l.table l.arena.k) l.lines.frame.now l.plan (length l.yielded);
+  keeps : Keeps (memory l.arena.bytes.now l.table l.arena.k) l.lines.frame.now l.initial.kept l.kept (length l.yielded);
 }

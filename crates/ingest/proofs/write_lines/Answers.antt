@@ -57,7 +57,7 @@ write_line-requires c =
     let is : line ≡ line_at f c.in-Some.c.at = read-line f c.in-Some.c.at c.name.ensures c.count.ensures in (
       c.loop-c.invariant.wrote.held,
       λ low z. kept_found c.loop-c.invariant.lasts c.requires.0 line short _
-      (t.1 ∙ c.requires.2.each _ t.0.counted ∙ kept_nth m f _ (stands_here s t.0.counted) ∙ ap (kept_of m) (sym is)) low z,
+          (t.1 ∙ c.requires.2.each _ t.0.counted ∙ kept_nth m f _ (stands_here s t.0.counted) ∙ ap (kept_of m) (sym is)) low z,
     )
 
 pub returns-in_err-left : goal.returns-in_err-left
