@@ -10,19 +10,12 @@ use lib.ListN.{length, take, drop, get_or, length-append}
 use lib.Seq.{drop-cons, drop-append_seam, take-append_seam, drop-drop}
 use borrow.Author.Tests.{lt-ltb, le-ltb, le-leb, lt-leb}
 use Rattle.std.specs.Prelude.{None}
-use Rattle.postings.specs.declared.Value.{Value}
 use Rattle.postings.specs.declared.Decoded.{Decoded}
 use Rattle.postings.specs.Coding.{threshold, max_gap, max_count, max_first, max_second, vbyte, code, valued, posting, value, at_most, onto, second, first, decoded}
 use Rattle.basics.proofs.Cases.{by-lt}
 use Rattle.postings.proofs.Values.{value-last, value_more, onto-number, value-vbyte, Front, View, view}
 
--- ---- what is found says which numbers were found
-
-pub valued_same : {v l v' l' : ℕ} → valued v l ≡ valued v' l' → (v ≡ v') × (l ≡ l')
-valued_same {v} {l} {v'} {l'} e =
-    let r : ◌≡◌ {A = Value} (record { value = v; length = l }) (record { value = v'; length = l' }) = cc in
-    (ap (λ (x : Value). x.value) r, ap (λ (x : Value). x.length) r)
-
+-- a posting that is found says which numbers were found
 pub posting_same : {g f l g' f' l' : ℕ} → posting g f l ≡ posting g' f' l' → (g ≡ g') × (f ≡ f') × (l ≡ l')
 posting_same {g} {f} {l} {g'} {f'} {l'} e =
     let r : ◌≡◌ {A = Decoded} (record { gap = g; count = f; length = l }) (record { gap = g'; count = f'; length = l' }) = cc in
@@ -61,10 +54,6 @@ pub first_high : (s : List ℕ) (v l : ℕ) → v % threshold ≡ 0 → first s 
 unfolding first
 first_high s v l h = rw (le-ltb 0 (v % threshold) (omega arith))
 
-pub decoded-none : (s : List ℕ) → at_most max_first (value s) ≡ None → decoded s ≡ None
-unfolding decoded first
-decoded-none s e = rw e
-
 pub decoded_low : (s : List ℕ) (v l : ℕ) → at_most max_first (value s) ≡ valued v l → 0 < v % threshold → decoded s ≡ posting (v / threshold + 1) (v % threshold) l
 unfolding decoded
 decoded_low s v l e h = rw e (first_low s v l h)
@@ -77,10 +66,6 @@ decoded_high s v l e h = rw e (first_high s v l h)
 pub second-number : (g l w m : ℕ) → second g l (valued w m) ≡ posting g (w + 3) (l + m)
 unfolding second
 second-number g l w m = refl
-
-pub second_none : (g l : ℕ) → second g l None ≡ None
-unfolding second
-second_none g l = refl
 
 -- ---- the short codes
 
@@ -127,22 +112,6 @@ module _ (s : List ℕ) (at : ℕ) (i : at < length s) where
 
       pub at_two : 128 ≤ b → b < 256 → 0 < b % threshold → decoded (drop at s) ≡ posting ((b - 128 + 128 * d) / threshold + 1) (b % threshold) 2
       at_two q k z = ap decoded both ∙ decoded_two b d (drop (suc (at + 1)) s) p h q k z
-
--- what a value that was read within a limit says
-pub read_number : (m : ℕ) (s : List ℕ) (v l : ℕ) → at_most m (value s) ≡ valued v l → (v ≤ m) × Front s v l
-read_number m s v l e = go (view s)
-  where
-    go : View s → (v ≤ m) × Front s v l
-    go (inl n) = let z : ◌≡◌ {A = ℕ} 0 1 = cc (none m) in absurd (omega arith)
-    go (inr t) =
-        by-lt m t.0
-        (λ h. let z : ◌≡◌ {A = ℕ} 0 1 = cc (over m t.0 t.1 h, t.2) in absurd (omega arith))
-        (λ h.
-        let same : (t.0 ≡ v) × (t.1 ≡ l) = valued_same (sym (ap (at_most m) t.2 ∙ at_most_lem m t.0 t.1 h) ∙ e) in
-        (omega arith, rw (same.0, same.1) at t.3))
-
-pub front_within : {s : List ℕ} {v l : ℕ} → Front s v l → l ≤ length s
-front_within {s} {v} {l} t = omega (arith, t.len, simp length-append at (ap length t.bytes))
 
 -- decoding a coded posting, with anything after it, returns it and its length
 pub decode-code : (g f : ℕ) → 0 < g → g ≤ max_gap → 0 < f → f ≤ max_count → (s : List ℕ)

@@ -2,10 +2,9 @@
 -- Assumes nothing.
 use mathlib.Core.Path.{◌≡◌, refl, sym, ap, ◌∙◌}
 use mathlib.Core.List.{List, [], ◌∷◌, ◌++◌}
-use Prim.Native.Nat.{ℕ, zero, suc, ◌+◌, ◌-◌, ◌*◌, ◌%◌, ◌^◌, ◌≤◌, ◌<◌}
+use Prim.Native.Nat.{ℕ, ◌+◌, ◌-◌, ◌*◌, ◌%◌, ◌^◌, ◌≤◌, ◌<◌}
 use native.Mathlib.Omega.{arith}
-use lib.ListN.{length, drop, get_or, replicate, length-append}
-use lib.Seq.{drop-append_seam}
+use lib.ListN.{length, drop, get_or, length-append}
 use Rattle.std.specs.Prelude.{None}
 use Rattle.postings.specs.Coding.{vbyte, code, posting, value, at_most, first, decoded}
 use Rattle.basics.proofs.Cases.{by-lt}
@@ -67,10 +66,6 @@ decoded-within s {g} {f} {l} e =
     let h : Held s g f l = decoded_held s g f l e in
     omega (arith, h.len, length-code_pos g f, simp length-append at (ap length h.bytes))
 
--- what follows a coded posting
-pub after_code : (g f : ℕ) (s : List ℕ) → drop (length (code g f)) (code g f ++ s) ≡ s
-after_code g f s = drop-append_seam (code g f) s
-
 -- the first byte of a code is not null
 pub code-head : (g f : ℕ) → 0 < g → 0 < f → (s : List ℕ) → 0 < get_or (code g f ++ s) 0 0
 code-head g f pg pf s = head (bytes-code g f pg pf) (length-code_pos g f)
@@ -78,8 +73,3 @@ code-head g f pg pf s = head (bytes-code g f pg pf) (length-code_pos g f)
     head : {t : List ℕ} → Bytes t → 0 < length t → 0 < get_or (t ++ s) 0 0
     head none h = absurd (omega arith)
     head (some p k b) h = p
-
--- nothing is decoded in cleared bytes
-pub decoded_zeros : (k : ℕ) → decoded (replicate k 0) ≡ None
-decoded_zeros zero = decoded-nil
-decoded_zeros (suc k) = decoded_null (replicate k 0)

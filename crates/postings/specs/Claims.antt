@@ -1,4 +1,4 @@
--- Demand 2: decoding a coded posting returns it, and coding a decoded one returns its bytes.
+-- Decoding a coded posting returns it, and coding a decoded one returns its bytes.
 use Rattle.std.specs.Prelude.{ℕ, ◌≤◌, ◌≡◌, List, ◌++◌, length, take}
 use Rattle.postings.specs.Coding.{max_gap, max_count, code, posting, decoded}
 

@@ -1,5 +1,5 @@
-// Double-VByte with threshold 4 (document 01, "Coding a posting"): a posting's gap and count as one or two values, each seven bits at a time,
-// lowest first.
+// Double-VByte with threshold 4: a posting's gap and count as one or two values, each seven bits at a time, lowest
+// first.
 #![tactic(auto)]
 
 ghost use Rattle.std.specs.Prelude.{◌≡◌, ℕ, IfSome, ◌+◌, ◌-◌, ◌≤◌, ◌<◌, ◌^◌, length, drop};
@@ -7,8 +7,8 @@ ghost use Rattle.std.proofs.lemmas.List.Edits.{sets};
 ghost use Rattle.postings.specs.Coding.{vbyte, code, code_length, value, at_most, decoded};
 ghost use Rattle.postings.specs.Claims.{RoundTrips};
 
-// The distance of a report from an earlier one, which is what a posting stores. The type says which the earlier one is, so that a gap that counts
-// from one report is not stored where another is meant.
+// The distance of a report from an earlier one, which is what a posting stores. The type says which the earlier one
+// is, so that a gap that counts from one report is not stored where another is meant.
 pub trait Gap: Copy {
     ghost distance: { Self → ℕ };
 
@@ -193,7 +193,8 @@ fn decode_long(s: &[u8]) -> Option<Decoded>
     })
 }
 
-// The posting that stands in s from `at` on. Most postings take one byte or two: these are read without a call, from the bytes as they stand.
+// The posting that stands in s from `at` on. Most postings take one byte or two: these are read without a call, from
+// the bytes as they stand.
 #[tactic(auto, using(crate::proofs::Codes::at_one, crate::proofs::Codes::at_two, crate::proofs::Codes::at_pair))]
 pub fn decode_at(s: &[u8], at: usize) -> Option<Decoded>
     requires { at < length s.now }
@@ -235,8 +236,8 @@ pub fn decode_at(s: &[u8], at: usize) -> Option<Decoded>
     decode_long(&s[at..])
 }
 
-// The posting at the front of s. Long codes have two callers, so that the compiler does not take their reading into decode_at, which would then be
-// too long to be taken into the loops that call it.
+// The posting at the front of s. Long codes have two callers, so that the compiler does not take their reading into
+// decode_at, which would then be too long to be taken into the loops that call it.
 pub fn decode(s: &[u8]) -> Option<Decoded>
     ensures { result ≡ decoded s.now }
 {
@@ -246,7 +247,7 @@ pub fn decode(s: &[u8]) -> Option<Decoded>
     decode_long(s)
 }
 
-// Demand 2, as a contract, so that the gate fails without it.
+// Decoding undoes coding and coding undoes decoding: a contract, so that the gate fails without it.
 pub fn codes_round_trip()
     ensures { RoundTrips }
 {}

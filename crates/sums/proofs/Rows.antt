@@ -70,9 +70,6 @@ filled_more f {xs} {i} y w h e = record {
       (λ n. get_or-set_other xs i j y 0 n ∙ w.each j (omega (arith, n)));
 }
 
-pub filled_all : (f : ℕ → ℕ) {xs : List ℕ} {i : ℕ} → Filled f xs i → 16 ≤ i → Lane f xs
-filled_all f w h = record { places = w.places; each = λ j k. w.each j (omega arith) }
-
 -- the lane at place j, read byte by byte
 module _ (s : List ℕ) (j : ℕ) where
   pub gap_lane : gap_of (get_or s (j + 16) 0) (get_or s (j + 15) 0) (get_or s (j + 14) 0)

@@ -1,12 +1,13 @@
-// Adding up the postings of a block's part: where they end, the number that their gaps lead to, and how many they are. Most codes of a long chain
-// have single bytes, and those are added up sixteen at a time.
+// Adding up the postings of a block's part: where they end, the number that their gaps lead to, and how many they are.
+// Most codes of a long chain have single bytes, and those are added up sixteen at a time.
 #![tactic(auto)]
 
 ghost use Rattle.std.specs.Prelude.{◌≡◌, IfSome, sum, ◌+◌, ◌≤◌, ◌<◌, length};
 ghost use Rattle.sums.specs.Adding.{sum_of, added_to, Small};
 ghost use Rattle.sums.specs.Rows.{is_second, gap_of, mark_of, gap_at, mark_at, lane, Lane, Rows};
 
-// The offset behind the last posting, the number that the gaps lead to, whatever reports there are, and how many postings they are.
+// The offset behind the last posting, the number that the gaps lead to, whatever reports there are, and how many
+// postings they are.
 #[derive(Clone, Copy)]
 pub struct Sum {
     pub at: usize,
@@ -71,7 +72,8 @@ pub struct Lanes {
     pub marks: [u8; 16],
 }
 
-// A turn is the same for all places and takes nothing over from the turn before: so the compiler makes one of all sixteen.
+// A turn is the same for all places and takes nothing over from the turn before: so the compiler makes one of all
+// sixteen.
 #[tactic(auto, using(crate::proofs::Bytes::gap_le, crate::proofs::Bytes::mark_le))]
 fn lanes_of(part: &[u8]) -> Lanes
     requires { length part.now ≡ 64 }
@@ -95,8 +97,7 @@ fn lanes_of(part: &[u8]) -> Lanes
     Lanes { gaps, marks }
 }
 
-fn total_of(lanes: &[u8]) -> u32
-    requires { length lanes.now ≡ 16 }
+fn total_of(lanes: &[u8; 16]) -> u32
     ensures { result ≡ sum lanes.now }
 {
     lanes.iter().map(|n| u32::from(*n)).sum()
@@ -109,19 +110,14 @@ pub struct RowSum {
     pub postings: u32,
 }
 
-// The last 48 bytes of a whole block, where they are codes of single bytes. A code starts at offset 16, its byte before being no first byte of two;
-// and the last byte is none either.
+// The last 48 bytes of a whole block, where they are codes of single bytes. A code starts at offset 16, its byte before
+// being no first byte of two; and the last byte is none either, so that a byte behind it would be no second one.
 fn read_rows(part: &[u8]) -> Option<RowSum>
     requires { length part.now ≡ 64 }
     ensures { IfSome result (λ r. Rows part.now r) }
 {
-    if part[15] % 4 == 0 {
+    if part[15] % 4 == 0 || is_second(part[63], part[62]) {
         return None;
-    }
-    if part[63] % 4 == 0 {
-        if part[62] % 4 != 0 {
-            return None;
-        }
     }
     let lanes = lanes_of(part);
     let postings = total_of(&lanes.marks);
