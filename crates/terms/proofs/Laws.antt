@@ -1,7 +1,7 @@
 -- What the crates above use of terms, their folding and their hash.
 -- Assumes nothing.
 use mathlib.Core.Path.{◌≡◌, refl, ap, ◌∙◌}
-use mathlib.Core.Bool.{not, true, false, ◌&&◌}
+use mathlib.Core.Bool.{not, cond, true, false, ◌&&◌}
 use mathlib.Core.List.{List, [], ◌∷◌}
 use Prim.Native.Nat.{ℕ, ◌+◌, ◌^◌, ◌≤◌, ◌<◌}
 use native.Mathlib.Nat.{zero-add}
@@ -13,6 +13,7 @@ use lib.Seq.{sets, sets-eq, take_at}
 use Rattle.basics.specs.Lists.{all}
 use Rattle.basics.proofs.Lists.{and_left, and_right, all-at, map-take, map-drop}
 use Rattle.std.specs.List.{fold}
+use Rattle.std.specs.Char.{is_ascii_graphic, to_ascii_lowercase}
 use Rattle.std.proofs.lemmas.Bool.Decides.{nat_tests}
 use Rattle.terms.specs.Terms.{max_term, allowed, capital, fold_byte, folded, is_term, mixed, fnv1a, is_name, judged_as}
 
@@ -45,6 +46,14 @@ allowed-fold b = grind (arith, nat_tests)
 pub fold-fold : (b : ℕ) → fold_byte (fold_byte b) ≡ fold_byte b
 unfolding fold_byte allowed capital
 fold-fold b = grind (arith, nat_tests)
+
+-- the rule in the words of the library: the allowed bytes are the graphic ones, and capitals become small letters
+pub fold_graphic : (b : ℕ) → fold_byte b ≡ cond (is_ascii_graphic b) (to_ascii_lowercase b) 0
+unfolding fold_byte allowed capital
+fold_graphic b = grind (arith, nat_tests)
+
+-- what folding a byte takes
+pub ruleset folding = (nat_tests, fold_graphic)
 
 -- ---- a list of bytes
 

@@ -68,15 +68,16 @@ pub fn fnv1a(s: &[u8]) -> u32
     s.iter().fold(START, |hash, b| mix(hash, *b))
 }
 
-// A byte folded by the rule. A loop over it takes sixteen bytes at a time, one over the table only one.
-#[tactic(auto, using(std::proofs::lemmas::Bool::Decides::nat_tests), unfolding(crate::specs::Terms::fold_byte, crate::specs::Terms::allowed, crate::specs::Terms::capital))]
+// A byte folded by the rule. A loop over it takes sixteen bytes at a time, one over the table only one. With a match on ranges in place of the test
+// a short term takes twice as long.
+#[tactic(auto, using(crate::proofs::Laws::folding))]
 fn fold_byte(b: u8) -> u8
     ensures { result ≡ fold_byte b }
 {
-    match b {
-        b'A'..=b'Z' => b + 32,
-        b'!'..=b'~' => b,
-        _ => 0,
+    if b.is_ascii_graphic() {
+        b.to_ascii_lowercase()
+    } else {
+        0
     }
 }
 
