@@ -28,9 +28,9 @@ use Rattle.lookup.proofs.Search.{Step, vacant, unused, found, passed, step, from
 use Rattle.counters.specs.declared.Counters.{Counters}
 use Rattle.counters.specs.Counters.{Memory}
 use Rattle.ingest.specs.declared.Place.{Place}
-use Rattle.ingest.specs.declared.Place.TheVariants.{New, Stays, Spills}
+use Rattle.ingest.specs.declared.Place.TheVariants.{Stays, Spills}
 use Rattle.ingest.specs.Report.{next_number, line_of, damaged_head, place_at, placed, place_of}
-use Rattle.ingest.specs.Needs.{Room, Below, HeadIs}
+use Rattle.ingest.specs.Needs.{Room, Below}
 
 -- ---- a known term's head
 

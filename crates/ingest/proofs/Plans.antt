@@ -1,7 +1,7 @@
 -- What lines need together: the plan from line to line, and refusals 10 to 12.
 -- Assumes nothing.
-use mathlib.Core.Path.{◌≡◌, refl, sym, ap, ◌∙◌}
-use mathlib.Core.Bool.{Bool, true, false}
+use mathlib.Core.Path.{◌≡◌, refl, ap, ◌∙◌}
+use mathlib.Core.Bool.{true, false}
 use mathlib.Core.List.{List, [], ◌∷◌, map}
 use Prim.Native.Nat.{ℕ, ◌+◌, ◌-◌, ◌≤◌, ◌<◌}
 use native.Mathlib.Nat.{add-zero}
@@ -23,7 +23,7 @@ use Rattle.ingest.specs.declared.Plan.{Plan}
 use Rattle.ingest.specs.Report.{Placed, place_of, is_damaged, terms_for, blocks_for, total, Needed, plan_of, plan_rows, lines_plan}
 use Rattle.ingest.specs.Needs.{with_place, needed}
 use Rattle.ingest.proofs.Places.{place_damage}
-use Rattle.ingest.proofs.Standing.{lines_from, lines_whole}
+use Rattle.ingest.proofs.Standing.{lines_from}
 
 -- ---- refusals 10 to 12
 

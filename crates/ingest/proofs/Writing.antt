@@ -3,7 +3,7 @@
 use mathlib.Core.Path.{◌≡◌, refl, sym, ap, ◌∙◌}
 use mathlib.Core.Bool.{Bool, true, false, cond}
 use mathlib.Core.List.{List, [], ◌∷◌}
-use Prim.Native.Nat.{ℕ, ◌+◌, ◌-◌, ◌≤◌, ◌<◌}
+use Prim.Native.Nat.{ℕ, ◌+◌, ◌≤◌, ◌<◌}
 use native.Mathlib.Nat.{add-zero}
 use native.Mathlib.Omega.{arith}
 use borrow.Author.Tests.{eq-eqb, ne_eqb}
@@ -24,7 +24,6 @@ use Rattle.lookup.specs.Lookup.{search as sought}
 use Rattle.lookup.proofs.Search.{length-enter}
 use Rattle.counters.specs.Counters.{Memory, max_terms}
 use Rattle.counters.proofs.Laws.{max_terms_as, Right}
-use Rattle.ingest.specs.declared.Place.{Place}
 use Rattle.ingest.specs.declared.Place.TheVariants.{New, Stays, Spills}
 use Rattle.ingest.specs.Report.{next_number, place_at, placed, place_of, Placed, is_damaged, terms_for, blocks_for, total, plan_of, plan_rows, lines_plan, written, Writing, wrote_as, write_lines}
 use Rattle.ingest.specs.Needs.{Held, write_one}

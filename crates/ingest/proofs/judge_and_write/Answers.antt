@@ -1,5 +1,5 @@
 -- A refused frame decides; else the lines are read, and a call that is not refused then leaves room to write them.
-use mathlib.Core.Path.{◌≡◌, sym, ◌∙◌}
+use mathlib.Core.Path.{sym, ◌∙◌}
 use native.Mathlib.Omega.{arith}
 use Rattle.std.proofs.lemmas.Result.{err_from_is_err_and}
 use Rattle.frames.proofs.Laws.{report-refused}
