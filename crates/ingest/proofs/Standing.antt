@@ -10,8 +10,8 @@ use denote.Ref.{Bor}
 use Rattle.std.proofs.Common.{Iter, Option, Some, None, subst}
 use Rattle.std.specs.Iterator.{Yields}
 use Rattle.std.specs.List.{zip, enumerate_from}
-use Rattle.core.specs.declared.iter.adapters.Zip.{Zip}
-use Rattle.core.specs.declared.iter.adapters.Enumerate.{Enumerate}
+use Rattle.std.specs.declared.iter.Zip.{Zip}
+use Rattle.std.specs.declared.iter.Enumerate.{Enumerate}
 use Rattle.std.specs.Iterator.Adapters.{zip_first, zip_second, enumerate_source, enumerate_count, enumerate_steps}
 use Rattle.std.specs.Slice.Iter.{iter_rest}
 use Rattle.std.proofs.iter.Yields.{fronts}
