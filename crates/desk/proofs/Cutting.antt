@@ -6,9 +6,10 @@ use mathlib.Core.List.{List, [], ◌∷◌, ◌++◌, append-nil, append_assoc}
 use mathlib.Core.Bool.{Bool, true, false, cond}
 use native.Mathlib.Omega.{arith}
 use lib.Dec.{ltb}
+use Rattle.std.proofs.Common.{Option, Some, None}
 use lib.ListN.{length, take, drop, length-append, length-drop, drop_of_length-le, get_or-append}
 use lib.Seq.{take_all, take-append-le, drop-append-le}
-use borrow.Author.Tests.{ltb-false, le-leb, lt-leb, eq-eqb, ne_eqb}
+use borrow.Author.Tests.{ltb-false, lt-ltb, le-ltb, le-leb, lt-leb, eq-eqb, ne_eqb}
 use Rattle.basics.proofs.Cases.{by-lt, by-eq}
 use Rattle.frames.specs.Frames.{max_body, body_length}
 use Rattle.counters.specs.Counters.{Memory}
@@ -77,20 +78,6 @@ frames-none = refl
 
 -- ---- a frame that can be judged now
 
-pub ready_le : (ended : Bool) (s : List ℕ) → ready_length ended s ≤ length s
-unfolding ready_length
-ready_le true s = by-lt (length s) (frame_length s) (λ h. rw (lt-leb _ _ h) (omega arith)) (λ h. rw (le-leb _ _ h) h)
-ready_le false s = by-lt (length s) (frame_length s) (λ h. rw (lt-leb _ _ h) (omega arith)) (λ h. rw (le-leb _ _ h) h)
-
--- where none can be judged: nothing is left, or the input has not ended and less than a frame is there
-pub ready_ended : (s : List ℕ) → ready_length true s ≡ 0 → length s ≡ 0
-unfolding ready_length
-ready_ended s = by-lt (length s) (frame_length s) (λ h. rw (lt-leb _ _ h) (λ e. e)) (λ h. rw (le-leb _ _ h) (λ e. omega (arith, frame-some s)))
-
-pub ready_starved : (s : List ℕ) → ready_length false s ≡ 0 → length s < longest_frame
-unfolding ready_length
-ready_starved s = by-lt (length s) (frame_length s) (λ h e. omega (arith, frame_le s)) (λ h. rw (le-leb _ _ h) (λ e. omega (arith, frame-some s)))
-
 -- what is cut off the front does not depend on what comes behind
 pub record Cuts (s t : List ℕ) (n : ℕ) : Type 0 where
   pub front : front_frame (s ++ t) ≡ take n s
@@ -118,16 +105,37 @@ cuts_last s h =
       rest = rw (append-nil s, a, b);
     }
 
-pub ready_cuts : (ended : Bool) (s t : List ℕ) → Comes ended t → (ready_length ended s ≡ 0 → ⊥) → Cuts s t (ready_length ended s)
+-- what can be judged now; where none can: nothing is left, or the input has not ended and less than a frame is there
+abbrev ReadyIs : Bool → List ℕ → Option ℕ → Type 0
+ReadyIs ended s (Some n) = (0 < n) × (n ≤ length s) × ((t : List ℕ) → Comes ended t → Cuts s t n)
+ReadyIs true s None = length s ≡ 0
+ReadyIs false s None = length s < longest_frame
+
+ready_is : (ended : Bool) (s : List ℕ) → ReadyIs ended s (ready_length ended s)
 unfolding ready_length Comes
-ready_cuts true s t e n = by-lt (length s) (frame_length s) (λ h. rw (lt-leb _ _ h, e) (cuts_last s h)) (λ h. rw (le-leb _ _ h) (cuts_whole s t h))
-ready_cuts false s t e n = by-lt (length s) (frame_length s) (λ h. absurd (n (rw (lt-leb _ _ h)))) (λ h. rw (le-leb _ _ h) (cuts_whole s t h))
+ready_is true s =
+    by-lt (length s) (frame_length s)
+    (λ h. by-lt 0 (length s) (λ p. rw (lt-leb _ _ h, lt-ltb _ _ p) (p, omega arith, λ t e. rw e (cuts_last s h))) (λ p. rw (lt-leb _ _ h, le-ltb _ _ p) (omega arith)))
+    (λ h. rw (le-leb _ _ h) (omega (arith, frame-some s), h, λ t e. cuts_whole s t h))
+ready_is false s =
+    by-lt (length s) (frame_length s) (λ h. rw (lt-leb _ _ h) (omega (arith, frame_le s)))
+    (λ h. rw (le-leb _ _ h) (omega (arith, frame-some s), h, λ t e. cuts_whole s t h))
+
+pub ready_some : (ended : Bool) (s : List ℕ) (n : ℕ) → ready_length ended s ≡ Some n → (0 < n) × (n ≤ length s) × ((t : List ℕ) → Comes ended t → Cuts s t n)
+ready_some ended s n e = rw e at (ready_is ended s)
+
+pub ready_ended : (s : List ℕ) → ready_length true s ≡ None → length s ≡ 0
+ready_ended s e = rw e at (ready_is true s)
+
+pub ready_starved : (s : List ℕ) → ready_length false s ≡ None → length s < longest_frame
+ready_starved s e = rw e at (ready_is false s)
 
 -- so the frames are that one and those of the rest
-pub ready_frames : (ended : Bool) (s t : List ℕ) → Comes ended t → (ready_length ended s ≡ 0 → ⊥) → let n = ready_length ended s in frames (s ++ t) ≡ take n s ∷ cond (overlong s) [] (frames (drop n s ++ t))
-ready_frames ended s t e n =
-    let c = ready_cuts ended s t e n in
-    let h : 0 < length (s ++ t) = rw length-append (omega (arith, ready_le ended s)) in
+pub ready_frames : (ended : Bool) (s t : List ℕ) (n : ℕ) → Comes ended t → ready_length ended s ≡ Some n → frames (s ++ t) ≡ take n s ∷ cond (overlong s) [] (frames (drop n s ++ t))
+ready_frames ended s t n e q =
+    let r = ready_some ended s n q in
+    let c = r.2 t e in
+    let h : 0 < length (s ++ t) = rw length-append (omega (arith, r.0, r.1)) in
     frames_step (s ++ t) h ∙ rw (c.front, c.over, c.rest)
 
 -- ---- frames one after the other: the lines and the memory of two lists of frames

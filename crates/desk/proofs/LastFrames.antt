@@ -16,8 +16,9 @@ use Rattle.frames.specs.Frames.{max_body, body_length, wrong_version, wrong_leng
 use Rattle.counters.specs.Counters.{Memory}
 use Rattle.ingest.specs.Report.{call_rows, call_refusal, report_call}
 use Rattle.query.specs.Listing.{list_rows, list_refusal, list_one_call, list_all_call}
-use Rattle.desk.specs.declared.Kind.{Kind}
-use Rattle.desk.specs.declared.Kind.TheVariants.{Report, One, All, Other}
+use Rattle.std.proofs.Common.{Option, Some, None}
+use Rattle.frames.specs.declared.Kind.{Kind}
+use Rattle.frames.specs.declared.Kind.TheVariants.{Report, One, All}
 use Rattle.desk.specs.Text.{refusal_line, report_line, list_line, one_line, all_line}
 use Rattle.desk.specs.Desk.{Answered, answered, answered_as, kind_of, other_refusal, overlong, frame_length, front_frame}
 use Rattle.desk.specs.Claims.{Last, LastRefused}
@@ -44,27 +45,27 @@ module _ (m : Memory) (f : List ℕ) (h : HeadWrong f) where
   abbrev refused_as : Answered
   refused_as = record { line = refusal_line number; left = m }
 
-  by_report : answered_as Report m f ≡ refused_as
+  by_report : answered_as (Some Report) m f ≡ refused_as
   unfolding answered_as report_call call_refusal call_rows report_rows head_rows report_line
   by_report = rw (first_two (wrong_version f) (wrong_length f) _ h, one-or_two (wrong_version f), one-or_two (wrong_version f))
 
-  by_one : answered_as One m f ≡ refused_as
+  by_one : answered_as (Some One) m f ≡ refused_as
   unfolding answered_as list_one_call list_refusal list_rows query_rows head_rows one_line list_line
   by_one = rw (first_two (wrong_version f) (wrong_length f) _ h, one-or_two (wrong_version f), one-or_two (wrong_version f))
 
-  by_all : answered_as All m f ≡ refused_as
+  by_all : answered_as (Some All) m f ≡ refused_as
   unfolding answered_as list_all_call list_refusal list_rows query_rows head_rows all_line list_line
   by_all = rw (first_two (wrong_version f) (wrong_length f) _ h, one-or_two (wrong_version f), one-or_two (wrong_version f))
 
-  by_other : answered_as Other m f ≡ refused_as
+  by_other : answered_as None m f ≡ refused_as
   unfolding answered_as other_refusal
   by_other = rw (first_two (wrong_version f) (wrong_length f) _ h)
 
-by_kind : (k : Kind) (m : Memory) (f : List ℕ) (h : HeadWrong f) → answered_as k m f ≡ record { line = refusal_line (cond (wrong_version f) 1 2); left = m }
-by_kind Report m f h = by_report m f h
-by_kind One m f h = by_one m f h
-by_kind All m f h = by_all m f h
-by_kind Other m f h = by_other m f h
+by_kind : (k : Option Kind) (m : Memory) (f : List ℕ) (h : HeadWrong f) → answered_as k m f ≡ record { line = refusal_line (cond (wrong_version f) 1 2); left = m }
+by_kind (Some Report) m f h = by_report m f h
+by_kind (Some One) m f h = by_one m f h
+by_kind (Some All) m f h = by_all m f h
+by_kind None m f h = by_other m f h
 
 -- ---- the last frame meets 1 or 2
 

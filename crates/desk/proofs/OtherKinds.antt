@@ -8,23 +8,24 @@ use native.Mathlib.Omega.{arith}
 use borrow.Author.Tests.{ne_eqb}
 use Rattle.frames.specs.Refusals.{first_of}
 use Rattle.frames.specs.Frames.{kind, wrong_version, wrong_length, wrong_kind, head_rows, field_rows, report_rows, report_refusal}
-use Rattle.desk.specs.declared.Kind.TheVariants.{Report, One, All, Other}
+use Rattle.std.proofs.Common.{Option, Some, None}
+use Rattle.frames.specs.declared.Kind.TheVariants.{Report, One, All}
 use Rattle.desk.specs.Desk.{kind_of, other_refusal}
 
 module _ (f : List ℕ) where
-  pub kind-report : kind f ≡ 1 → kind_of f ≡ Report
+  pub kind-report : kind f ≡ 1 → kind_of f ≡ Some Report
   unfolding kind_of
   kind-report e = rw e
 
-  pub kind-one : kind f ≡ 2 → kind_of f ≡ One
+  pub kind-one : kind f ≡ 2 → kind_of f ≡ Some One
   unfolding kind_of
   kind-one e = rw e
 
-  pub kind-all : kind f ≡ 3 → kind_of f ≡ All
+  pub kind-all : kind f ≡ 3 → kind_of f ≡ Some All
   unfolding kind_of
   kind-all e = rw e
 
-  pub kind_other : (kind f ≡ 1 → ⊥) → (kind f ≡ 2 → ⊥) → (kind f ≡ 3 → ⊥) → kind_of f ≡ Other
+  pub kind_other : (kind f ≡ 1 → ⊥) → (kind f ≡ 2 → ⊥) → (kind f ≡ 3 → ⊥) → kind_of f ≡ None
   unfolding kind_of
   kind_other a b c = rw (ne_eqb _ _ a, ne_eqb _ _ b, ne_eqb _ _ c)
 
@@ -33,7 +34,7 @@ module _ (f : List ℕ) where
   unfolding report_refusal report_rows head_rows field_rows wrong_kind other_refusal first_of
   other_report h = rw (ne_eqb (kind f) 1 h)
 
-  pub other_not_report : kind_of f ≡ Other → kind f ≡ 1 → ⊥
+  pub other_not_report : kind_of f ≡ None → kind f ≡ 1 → ⊥
   other_not_report e k = let z : ◌≡◌ {A = ℕ} 0 1 = cc (kind-report k) in omega arith
 
   pub other_some : 0 < other_refusal f

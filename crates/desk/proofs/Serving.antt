@@ -5,6 +5,7 @@ use mathlib.Core.Path.{◌≡◌, refl, ap, sym, ◌∙◌}
 use mathlib.Core.List.{List, [], ◌∷◌, ◌++◌, append_assoc}
 use mathlib.Core.Bool.{Bool, true, false, cond}
 use native.Mathlib.Omega.{arith}
+use Rattle.std.proofs.Common.{Some, None}
 use lib.ListN.{length, take, drop, length-append, length-drop}
 use lib.Seq.{sets, length-sets, take_all, drop-drop}
 use Rattle.basics.proofs.Stores.{sets_two}
@@ -15,19 +16,17 @@ use Rattle.desk.specs.declared.Next.{Next}
 use Rattle.desk.specs.declared.Next.TheVariants.{Settle, Stop}
 use Rattle.desk.specs.Desk.{answered, overlong, frames, lines_of, memory_after}
 use Rattle.desk.specs.Needs.{Answers, Settles, longest_line, ready_length, waiting_for, Comes, frames_after}
-use Rattle.desk.proofs.Cutting.{frames-none, ready_le, ready_ended, ready_starved, ready_frames, lines-append, lines-one, memory-append, memory-one}
+use Rattle.desk.proofs.Cutting.{frames-none, ready_some, ready_ended, ready_starved, ready_frames, lines-append, lines-one, memory-append, memory-one}
 
 -- the part of a list from n on
 pub tail-is : (n : ℕ) (s : List ℕ) → take (length s - n) (drop n s) ≡ drop n s
 tail-is n s = take_all (length s - n) (drop n s) (simp length-drop (omega arith))
 
 -- what can be judged lies within the bytes at hand
-pub ready_fits : (ended : Bool) (s : List ℕ) (n : ℕ) → n ≡ ready_length ended s → n ≤ length s
-ready_fits ended s n q = rw q (ready_le ended s)
-
-pub ready_inside : (ended : Bool) (s : List ℕ) (taken n : ℕ) → taken ≤ length s → n ≡ ready_length ended (take (length s - taken) (drop taken s)) → taken + n ≤ length s
-ready_inside ended s taken n h q =
-    omega (arith, ready_fits ended (take (length s - taken) (drop taken s)) n q, ap length (tail-is taken s), length-drop taken s)
+pub ready_inside : (ended : Bool) (s rest : List ℕ) (taken n : ℕ) → taken ≤ length s → rest ≡ drop taken s → ready_length ended rest ≡ Some n → (0 < n) × (taken + n ≤ length s)
+ready_inside ended s rest taken n h p q =
+    let r = ready_some ended rest n q in
+    (r.0, omega (arith, r.1, ap length p, length-drop taken s))
 
 empty : (s : List ℕ) → length s ≡ 0 → s ≡ []
 empty [] e = refl
@@ -68,7 +67,7 @@ module _ (m₀ : Memory) (s : List ℕ) (ended : Bool) (out₀ : List ℕ) where
     }
 
     -- a frame has been answered
-    module _ (rest : List ℕ) (p : rest ≡ drop taken s) (n : ℕ) (q : n ≡ ready_length ended rest) (some : n ≡ 0 → ⊥) (room : written + longest_line ≤ length out) (r : Answer) (m' : Memory) (out' : List ℕ) (a : Answers (answered m (take n rest)) out written r m' out') where
+    module _ (rest : List ℕ) (p : rest ≡ drop taken s) (n : ℕ) (q : ready_length ended rest ≡ Some n) (room : written + longest_line ≤ length out) (r : Answer) (m' : Memory) (out' : List ℕ) (a : Answers (answered m (take n rest)) out written r m' out') where
       abbrev frame : List ℕ
       frame = take n rest
 
@@ -88,16 +87,16 @@ module _ (m₀ : Memory) (s : List ℕ) (ended : Bool) (out₀ : List ℕ) where
       more_count = rw more_lines (simp length-append (omega (arith, a.puts.ends, v.count)))
 
       more_few : taken + n ≤ length s
-      more_few = omega (arith, ready_fits ended rest n q, ap length p, length-drop taken s, v.few)
+      more_few = (ready_inside ended s rest taken n v.few p q).1
 
       more_inside : r.end ≤ length out₀
       more_inside = omega (arith, a.puts.near, serving_length)
 
       more_cut : (t : List ℕ) → Comes ended t → frames (s ++ t) ≡ more ++ cond (overlong rest) [] (frames (drop (taken + n) s ++ t))
       more_cut t e =
-          let l = ready_frames ended rest t e (λ z. some (q ∙ z)) in
+          let l = ready_frames ended rest t n e q in
           let d : drop n rest ≡ drop (taken + n) s = ap (λ (l : List ℕ). drop n l) p ∙ drop-drop n taken s in
-          let c : frames (drop taken s ++ t) ≡ frame ∷ cond (overlong rest) [] (frames (drop (taken + n) s ++ t)) = ap (λ (l : List ℕ). frames (l ++ t)) (sym p) ∙ (rw (← q, d) at l) in
+          let c : frames (drop taken s ++ t) ≡ frame ∷ cond (overlong rest) [] (frames (drop (taken + n) s ++ t)) = ap (λ (l : List ℕ). frames (l ++ t)) (sym p) ∙ (rw d at l) in
           v.cut t e ∙ rw (c, append_assoc)
 
       pub serving_more : overlong rest ≡ false → Serving m' (taken + n) r.end out'
@@ -127,7 +126,7 @@ module _ (m₀ : Memory) (s : List ℕ) (ended : Bool) (out₀ : List ℕ) where
       }
 
 -- no frame can be judged now: the program reads more, or it ends
-waits : (ended : Bool) (m₀ : Memory) (s out₀ : List ℕ) {m : Memory} {taken written : ℕ} {out : List ℕ} (v : Serving m₀ s ended out₀ m taken written out) → ready_length ended (drop taken s) ≡ 0 → (k : Counters) → Settles m₀ s ended out₀ (record { next = waiting_for ended; counters = k; taken = taken; written = written }) m out
+waits : (ended : Bool) (m₀ : Memory) (s out₀ : List ℕ) {m : Memory} {taken written : ℕ} {out : List ℕ} (v : Serving m₀ s ended out₀ m taken written out) → ready_length ended (drop taken s) ≡ None → (k : Counters) → Settles m₀ s ended out₀ (record { next = waiting_for ended; counters = k; taken = taken; written = written }) m out
 unfolding frames_after Comes
 waits true m₀ s out₀ {taken = taken} v z k = record {
   done = v.done;
@@ -152,5 +151,5 @@ waits false m₀ s out₀ {taken = taken} v z k = record {
   full = λ e. let y : ◌≡◌ {A = ℕ} 0 1 = cc in absurd (omega arith);
 }
 
-pub serving_waits : (m₀ : Memory) (s : List ℕ) (ended : Bool) (out₀ : List ℕ) {m : Memory} {taken written : ℕ} {out : List ℕ} (v : Serving m₀ s ended out₀ m taken written out) (rest : List ℕ) → rest ≡ drop taken s → ready_length ended rest ≡ 0 → (k : Counters) (next : Next) → next ≡ waiting_for ended → Settles m₀ s ended out₀ (record { next = next; counters = k; taken = taken; written = written }) m out
+pub serving_waits : (m₀ : Memory) (s : List ℕ) (ended : Bool) (out₀ : List ℕ) {m : Memory} {taken written : ℕ} {out : List ℕ} (v : Serving m₀ s ended out₀ m taken written out) (rest : List ℕ) → rest ≡ drop taken s → ready_length ended rest ≡ None → (k : Counters) (next : Next) → next ≡ waiting_for ended → Settles m₀ s ended out₀ (record { next = next; counters = k; taken = taken; written = written }) m out
 serving_waits m₀ s ended out₀ v rest p z k next e = rw e (waits ended m₀ s out₀ v (rw p at z) k)

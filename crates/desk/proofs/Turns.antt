@@ -6,52 +6,32 @@ use mathlib.Core.List.{List, [], ◌++◌, append-nil, append_assoc}
 use mathlib.Core.Bool.{Bool, true, false}
 use native.Mathlib.Omega.{arith}
 use lib.ListN.{length, take, drop, replicate, length-take, length-drop}
-use lib.Seq.{sets, sets-eq, length-sets, take_at, take-add}
+use lib.Seq.{take_at, take-add}
+use Rattle.std.proofs.Common.{Result}
+use Rattle.std.specs.List.{copy_within}
 use Rattle.basics.proofs.Parts.{drop-take}
 use Rattle.counters.specs.Counters.{Memory, memory}
 use Rattle.desk.specs.declared.Next.TheVariants.{Settle, Read, Stop}
-use Rattle.desk.specs.declared.Piece.{Piece}
-use Rattle.desk.specs.declared.Piece.TheVariants.{Bytes}
 use Rattle.desk.specs.declared.Settled.{Settled}
-use Rattle.desk.specs.declared.Turn.{Turn}
 use Rattle.desk.specs.Desk.{arena_bytes, table_entries, started, frames, lines_of, memory_after, lines, desk_output}
-use Rattle.desk.specs.Needs.{Settles, Turns, Reads, InRoom, Reached, Comes, frames_after}
+use Rattle.desk.specs.Needs.{Settles, Turns, Reads, Reached, Comes, frames_after}
 use Rattle.desk.proofs.Cutting.{lines-append, memory-append}
 
 -- ---- what is left is moved to the front
 
--- a text stored at the front of a list is its first part
-front_stored : (l z : List ℕ) (n : ℕ) → length z ≡ n → n ≤ length l → take n (sets l 0 z) ≡ z
-front_stored l z n e h = ap (λ (t : List ℕ). take n t) (sets-eq z l 0 (omega arith)) ∙ take_at z _ n e
-
 module _ (input : List ℕ) (held taken : ℕ) (h : held ≤ length input) (t : taken ≤ held) where
-  abbrev kept : List ℕ
-  kept = take (held - taken) (drop taken input)
-
-  pub kept_front : take (held - taken) (sets input 0 kept) ≡ drop taken (take held input)
+  kept_front : take (held - taken) (copy_within input taken held 0) ≡ drop taken (take held input)
   kept_front =
-      front_stored input kept (held - taken) (simp (length-take, length-drop) (omega arith)) (omega arith)
-      ∙ sym (drop-take taken held input)
+      let part = take (held - taken) (drop taken input) in
+      let e : length part ≡ held - taken = simp (length-take, length-drop) (omega arith) in
+      take_at part _ (held - taken) e ∙ sym (drop-take taken held input)
 
-pub turned : (m : Memory) (input : List ℕ) (held : ℕ) (ended : Bool) (out : List ℕ) (r : Settled) (left : Memory) (after input' : List ℕ) (n : ℕ)
-    → held ≤ length input → Settles m (take held input) ended out r left after → n ≡ held - r.taken
-    → input' ≡ sets input 0 (take (held - r.taken) (drop r.taken input))
-    → Turns m (take held input) ended out (record { next = r.next; counters = r.counters; held = n; written = r.written }) left input' after
-turned m input held ended out r left after input' n h v e q =
+pub turned : {m : Memory} {input : List ℕ} {held : ℕ} {ended : Bool} {out : List ℕ} {r : Settled} {left : Memory} {after input' : List ℕ}
+    → held ≤ length input → Settles m (take held input) ended out r left after → input' ≡ copy_within input r.taken held 0
+    → Turns m (take held input) ended out r left input' after
+turned {input = input} {held = held} {r = r} h v e =
     let l : length (take held input) ≡ held = simp length-take (omega arith) in
-    let b : r.taken ≤ held = omega (arith, v.taken, l) in
-    let f : take n input' ≡ drop r.taken (take held input) = rw (e, q) (kept_front input held r.taken h b) in
-    record {
-      done = v.done;
-      cut = λ t k. v.cut t k ∙ rw f;
-      stored = v.stored;
-      written = v.written;
-      inside = v.inside;
-      leaves = v.leaves;
-      room = rw (q, length-sets) (omega arith);
-      starved = λ s. ((v.starved s).0, omega (arith, (v.starved s).1, l));
-      full = v.full;
-    }
+    record { settles = v; moved = rw (l, e) (kept_front input held r.taken h (omega (arith, v.taken, l))) }
 
 -- ---- turn after turn
 
@@ -61,31 +41,32 @@ unfolding started memory_after
 reached-start arena table p q input = record { read = []; done = []; cut = λ t e. refl; leaves = rw (p, q) }
 
 module _ {m : Memory} {held : List ℕ} {ended : Bool} (v : Reached m held ended) where
-  module _ {out : List ℕ} {r : Turn} {left : Memory} {input after : List ℕ} (w : Turns m held ended out r left input after) where
+  module _ {out : List ℕ} {r : Settled} {left : Memory} {input after : List ℕ} (w : Turns m held ended out r left input after) where
     abbrev both : List (List ℕ)
-    both = v.done ++ w.done
+    both = v.done ++ w.settles.done
 
-    turn_cut : (t : List ℕ) → Comes ended t → frames (v.read ++ t) ≡ both ++ frames_after r.next (take r.held input ++ t)
-    turn_cut t e = v.cut t e ∙ rw (w.cut t e, append_assoc)
+    turn_cut : (t : List ℕ) → Comes ended t → frames (v.read ++ t) ≡ both ++ frames_after r.next (drop r.taken held ++ t)
+    turn_cut t e = v.cut t e ∙ rw (w.settles.cut t e, append_assoc)
 
     turn_leaves : left ≡ memory_after started both
-    turn_leaves = w.leaves ∙ rw (v.leaves, memory-append)
+    turn_leaves = w.settles.leaves ∙ rw (v.leaves, memory-append)
 
-    -- the frames of a turn are answered
-    pub reached-settle : r.next ≡ Settle → Reached left (take r.held input) ended
-    unfolding frames_after
-    reached-settle s = record { read = v.read; done = both; cut = λ t e. turn_cut t e ∙ rw s; leaves = turn_leaves }
+    -- the frames of a turn are answered, and n bytes are left
+    module _ (n : ℕ) (q : n ≡ length held - r.taken) where
+      pub reached-settle : r.next ≡ Settle → Reached left (take n input) ended
+      unfolding frames_after
+      reached-settle s = rw (q, w.moved) (record { read = v.read; done = both; cut = λ t e. turn_cut t e ∙ rw s; leaves = turn_leaves })
 
-    pub reached-starved : r.next ≡ Read → Reached left (take r.held input) ended
-    unfolding frames_after
-    reached-starved s = record { read = v.read; done = both; cut = λ t e. turn_cut t e ∙ rw s; leaves = turn_leaves }
+      pub reached-starved : r.next ≡ Read → Reached left (take n input) ended
+      unfolding frames_after
+      reached-starved s = rw (q, w.moved) (record { read = v.read; done = both; cut = λ t e. turn_cut t e ∙ rw s; leaves = turn_leaves })
 
     -- the program ends: the lines of all turns are the whole output, whatever comes that was not read
-    pub reached_stop : r.next ≡ Stop → (t : List ℕ) → Comes ended t → desk_output (v.read ++ t) ≡ lines_of started v.done ++ lines_of m w.done
+    pub reached_stop : r.next ≡ Stop → (t : List ℕ) → Comes ended t → desk_output (v.read ++ t) ≡ lines_of started v.done ++ lines_of m w.settles.done
     unfolding desk_output lines frames_after
     reached_stop s t e = rw (turn_cut t e, s, append-nil, lines-append, ← v.leaves)
 
-module _ {input after : List ℕ} {held : ℕ} {r : Piece} (w : Reads input held r after) where
+module _ {E : Type 0} {input after : List ℕ} {held : ℕ} {r : Result ℕ E} (w : Reads input held r after) where
   -- more bytes have been read behind those that are held
   pub reached-read : {m : Memory} (n : ℕ) {ended : Bool} → ended ≡ false → Reached m (take held input) ended → Reached m (take (held + n) after) ended
   unfolding Comes
@@ -102,8 +83,3 @@ module _ {input after : List ℕ} {held : ℕ} {r : Piece} (w : Reads input held
   pub reached_end : {m : Memory} {ended : Bool} → ended ≡ false → Reached m (take held input) ended → Reached m (take held after) true
   unfolding Comes
   reached_end e v = rw w.kept (record { read = v.read; done = v.done; cut = λ t c. v.cut t (rw e tt); leaves = v.leaves })
-
-  -- what a read gave lies in the buffer
-  pub read-inside : (n : ℕ) → r ≡ Bytes n → held + n ≤ length after
-  unfolding InRoom
-  read-inside n e = (rw e at w.room).1

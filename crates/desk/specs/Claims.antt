@@ -1,11 +1,11 @@
 -- What is claimed of the whole program besides the contracts of its functions.
-use Rattle.std.specs.Prelude.{ℕ, ◌<◌, ◌≡◌, List, [], ◌∷◌, ◌++◌, true, cond, ◌⊎◌, length}
+use Rattle.std.specs.Prelude.{ℕ, ◌<◌, ◌≡◌, List, [], ◌∷◌, ◌++◌, true, cond, Option, Some, None, ◌⊎◌, length}
 use Rattle.frames.specs.Frames.{wrong_version}
 use Rattle.counters.specs.Counters.{Memory}
 use Rattle.ledger.specs.Ledger.{Report, enter_report}
 use Rattle.ledger.specs.Calls.{Bytes, ledger_one, ledger_all}
-use Rattle.desk.specs.declared.Kind.{Kind}
-use Rattle.desk.specs.declared.Kind.TheVariants as kind
+use Rattle.frames.specs.declared.Kind.{Kind}
+use Rattle.frames.specs.declared.Kind.TheVariants as kind
 use Rattle.desk.specs.Text.{refusal_line, report_line, one_line, all_line}
 use Rattle.desk.specs.Desk.{arena_bytes, table_entries, empty_list, kind_of, other_refusal, answered, overlong, frame_length, front_frame, frames, desk_output}
 
@@ -20,19 +20,19 @@ abbrev pub LastRefused : Type 0
 LastRefused =
     (m : Memory) (s : List ℕ) → Last s → let f = front_frame s in answered m f ≡ record { line = refusal_line (cond (wrong_version f) 1 2); left = m }
 
--- ---- the program by the plain ledger of demand 3
+-- ---- the program by the plain ledger
 
 -- the line for a frame and the reports held behind it
 pub record Told : Type 0 where
   pub line : List ℕ
   pub left : List Report
 
-unfoldable pub told_as : Kind → List Report → List ℕ → Told
-told_as kind.Report rs f =
+unfoldable pub told_as : Option Kind → List Report → List ℕ → Told
+told_as (Some kind.Report) rs f =
     let e = enter_report arena_bytes table_entries rs f in record { line = report_line e.answer; left = e.reports }
-told_as kind.One rs f = record { line = one_line (ledger_one rs f empty_list empty_list); left = rs }
-told_as kind.All rs f = record { line = all_line (ledger_all rs f empty_list); left = rs }
-told_as kind.Other rs f = record { line = refusal_line (other_refusal f); left = rs }
+told_as (Some kind.One) rs f = record { line = one_line (ledger_one rs f empty_list empty_list); left = rs }
+told_as (Some kind.All) rs f = record { line = all_line (ledger_all rs f empty_list); left = rs }
+told_as None rs f = record { line = refusal_line (other_refusal f); left = rs }
 
 unfoldable pub told_lines : List Report → List (List ℕ) → List ℕ
 told_lines rs [] = []

@@ -1,13 +1,13 @@
--- The desk program (document 01, "The desk program"): what it writes for a whole input.
-use Rattle.std.specs.Prelude.{ℕ, zero, suc, ◌+◌, ◌*◌, List, [], ◌∷◌, ◌++◌, Bool, true, cond, ltb, eqb, length, take, drop, replicate}
+-- The desk program: what it writes for a whole input.
+use Rattle.std.specs.Prelude.{ℕ, zero, suc, ◌+◌, ◌*◌, List, [], ◌∷◌, ◌++◌, Bool, true, cond, Option, Some, None, ltb, eqb, length, take, drop, replicate}
 use Rattle.frames.specs.Refusals.{◌if◌, first_of}
 use Rattle.frames.specs.Frames.{body_length, kind, max_body, wrong_version, wrong_length}
 use Rattle.blocks.specs.Fields.{block_size}
 use Rattle.counters.specs.Counters.{Memory, memory}
 use Rattle.ingest.specs.Report.{report_call}
 use Rattle.query.specs.Listing.{list_one_call, list_all_call}
-use Rattle.desk.specs.declared.Kind.{Kind}
-use Rattle.desk.specs.declared.Kind.TheVariants.{Report, One, All, Other}
+use Rattle.frames.specs.declared.Kind.{Kind}
+use Rattle.frames.specs.declared.Kind.TheVariants.{Report, One, All}
 use Rattle.desk.specs.Text.{refusal_line, report_line, one_line, all_line}
 
 -- ---- its memory: 1,000 blocks, T = 512, result lists of 16
@@ -27,9 +27,9 @@ empty_list = replicate 16 0
 
 -- ---- one frame: the call of its kind answers it
 
--- the kind chooses the call
-unfoldable pub kind_of : List ℕ → Kind
-kind_of f = cond (eqb (kind f) 1) Report (cond (eqb (kind f) 2) One (cond (eqb (kind f) 3) All Other))
+-- the kind chooses the call, if any
+unfoldable pub kind_of : List ℕ → Option Kind
+kind_of f = cond (eqb (kind f) 1) (Some Report) (cond (eqb (kind f) 2) (Some One) (cond (eqb (kind f) 3) (Some All) None))
 
 -- a kind other than 01 to 03: 3, unless 1 or 2 applies
 unfoldable pub other_refusal : List ℕ → ℕ
@@ -41,11 +41,11 @@ pub record Answered : Type 0 where
   pub left : Memory
 
 -- only a report changes the memory
-unfoldable pub answered_as : Kind → Memory → List ℕ → Answered
-answered_as Report m f = record { line = report_line (report_call m f).answer; left = (report_call m f).left }
-answered_as One m f = record { line = one_line (list_one_call m f empty_list empty_list); left = m }
-answered_as All m f = record { line = all_line (list_all_call m f empty_list); left = m }
-answered_as Other m f = record { line = refusal_line (other_refusal f); left = m }
+unfoldable pub answered_as : Option Kind → Memory → List ℕ → Answered
+answered_as (Some Report) m f = record { line = report_line (report_call m f).answer; left = (report_call m f).left }
+answered_as (Some One) m f = record { line = one_line (list_one_call m f empty_list empty_list); left = m }
+answered_as (Some All) m f = record { line = all_line (list_all_call m f empty_list); left = m }
+answered_as None m f = record { line = refusal_line (other_refusal f); left = m }
 
 unfoldable pub answered : Memory → List ℕ → Answered
 answered m f = answered_as (kind_of f) m f

@@ -1,14 +1,11 @@
 -- How the functions of this program say what they write and how far they came.
-use Rattle.std.specs.Prelude.{ℕ, ◌+◌, ◌-◌, ◌≤◌, ◌<◌, ◌≡◌, List, [], ◌++◌, Bool, true, false, cond, leb, length, take, drop}
+use Rattle.std.specs.Prelude.{ℕ, ◌+◌, ◌-◌, ◌≤◌, ◌<◌, ◌≡◌, List, [], ◌++◌, Bool, true, false, cond, leb, ltb, ◌&&◌, Option, Some, None, Result, IfOk, length, take, drop}
 use Rattle.std.proofs.lemmas.List.Edits.{sets}
 use Rattle.counters.specs.Counters.{Memory}
 use Rattle.desk.specs.declared.Answer.{Answer}
 use Rattle.desk.specs.declared.Next.{Next}
 use Rattle.desk.specs.declared.Next.TheVariants.{Settle, Read, Stop}
-use Rattle.desk.specs.declared.Piece.{Piece}
-use Rattle.desk.specs.declared.Piece.TheVariants.{Bytes, End, Failed}
 use Rattle.desk.specs.declared.Settled.{Settled}
-use Rattle.desk.specs.declared.Turn.{Turn}
 use Rattle.desk.specs.Desk.{started, Answered, frame_length, frames, lines_of, memory_after}
 
 -- a text stands in the buffer from `at` on, all other bytes are as they were, and `end` is the place behind it, at most `most` bytes on
@@ -31,8 +28,8 @@ abbrev pub longest_frame : ℕ
 longest_frame = 4099
 
 -- how many bytes at the front can be judged now: the whole frame; where the input has ended, whatever is left; else none
-unfoldable pub ready_length : Bool → List ℕ → ℕ
-ready_length ended s = cond (leb (frame_length s) (length s)) (frame_length s) (cond ended (length s) 0)
+unfoldable pub ready_length : Bool → List ℕ → Option ℕ
+ready_length ended s = cond (leb (frame_length s) (length s)) (Some (frame_length s)) (cond (ended && ltb 0 (length s)) (Some (length s)) None)
 
 -- where none can be judged, more is read, unless the input has ended
 abbrev pub waiting_for : Bool → Next
@@ -66,26 +63,14 @@ pub record Settles (m : Memory) (s : List ℕ) (ended : Bool) (out : List ℕ) (
   pub full : r.next ≡ Settle → length out < r.written + longest_line
 
 -- the same, with what is left at the front of the input's buffer
-pub record Turns (m : Memory) (held : List ℕ) (ended : Bool) (out : List ℕ) (r : Turn) (left : Memory) (input : List ℕ) (after : List ℕ) : Type 0 where
-  pub done : List (List ℕ)
-  pub cut : (t : List ℕ) → Comes ended t → frames (held ++ t) ≡ done ++ frames_after r.next (take r.held input ++ t)
-  pub stored : after ≡ sets out 0 (lines_of m done)
-  pub written : r.written ≡ length (lines_of m done)
-  pub inside : r.written ≤ length out
-  pub leaves : left ≡ memory_after m done
-  pub room : r.held ≤ length input
-  pub starved : r.next ≡ Read → (ended ≡ false) × (r.held < longest_frame)
-  pub full : r.next ≡ Settle → length out < r.written + longest_line
+pub record Turns (m : Memory) (held : List ℕ) (ended : Bool) (out : List ℕ) (r : Settled) (left : Memory) (input : List ℕ) (after : List ℕ) : Type 0 where
+  pub settles : Settles m held ended out r left after
+  pub moved : take (length held - r.taken) input ≡ drop r.taken held
 
 -- what a read leaves of the buffer: the bytes held are as they were, and those that came fit behind them
-unfoldable pub InRoom : Piece → ℕ → ℕ → Type 0
-InRoom (Bytes n) held room = (0 < n) × (held + n ≤ room)
-InRoom End held room = Unit {0}
-InRoom Failed held room = Unit {0}
-
-pub record Reads (input : List ℕ) (held : ℕ) (r : Piece) (after : List ℕ) : Type 0 where
+pub record Reads {E : Type 0} (input : List ℕ) (held : ℕ) (r : Result ℕ E) (after : List ℕ) : Type 0 where
   pub kept : take held after ≡ take held input
-  pub room : InRoom r held (length after)
+  pub room : IfOk r (λ n. held + n ≤ length after)
 
 -- the program between two turns: it has read `read` and answered the frames `done`, and so its memory is as they leave it; whatever comes, the frames of
 -- it all are these and then those of what is held and what comes

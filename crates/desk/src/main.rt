@@ -1,9 +1,8 @@
-// The desk program (document 01, "The desk program"): reads frames from standard input and writes one line for each. The lines for a whole input are
-// `desk_output` of specs/Desk.antt; the functions here are proved against it up to the calls that read and write.
+// The desk program: reads frames from standard input and writes one line for each. The lines for a whole input are `desk_output` of specs/Desk.antt;
+// the functions here are proved against it up to the calls that read and write.
 #![tactic(auto)]
 
-ghost use Rattle.std.specs.Prelude.{◌≡◌, ◌+◌, ◌-◌, ◌*◌, ◌≤◌, ◌<◌, [], ◌∷◌, length, get_or, take, drop};
-ghost use Rattle.std.proofs.lemmas.List.Edits.{sets};
+ghost use Rattle.std.specs.Prelude.{◌≡◌, ◌+◌, ◌-◌, ◌*◌, ◌≤◌, ◌<◌, [], ◌∷◌, Some, None, length, get_or, take, drop};
 ghost use Rattle.frames.specs.Frames.{body_length};
 ghost use Rattle.counters.specs.Counters.{memory};
 ghost use Rattle.desk.specs.Text.{decimal, numbered, report_line, pair_text, pairs_text, place_text, places_text, end_text};
@@ -12,18 +11,9 @@ ghost use Rattle.desk.specs.Needs.{Puts, Answers, Settles, Turns, Reads, longest
 ghost use Rattle.desk.specs.Claims.{LastRefused, TellsLedger};
 
 use counters::Counters;
-use frames::Report;
+use frames::Kind;
 use ingest::ReportAnswer;
-use std::io::Read;
-
-// The call that a frame's kind asks for.
-#[derive(Clone, Copy)]
-enum Kind {
-    Report,
-    One,
-    All,
-    Other,
-}
+use std::io::{self, Read};
 
 // The counters after a frame, and where its line ends in the output.
 #[derive(Clone, Copy)]
@@ -40,30 +30,13 @@ enum Next {
     Stop,
 }
 
-// How far some frames at the front of the input were answered.
+// How far some frames at the front of the bytes at hand were answered.
 #[derive(Clone, Copy)]
 struct Settled {
     next: Next,
     counters: Counters,
     taken: usize,
     written: usize,
-}
-
-// The same, once the bytes that are left stand at the front of the buffer: so many are held.
-#[derive(Clone, Copy)]
-struct Turn {
-    next: Next,
-    counters: Counters,
-    held: usize,
-    written: usize,
-}
-
-// What a read gave: so many bytes, the end of the input, or a failure.
-#[derive(Clone, Copy)]
-enum Piece {
-    Bytes(usize),
-    End,
-    Failed,
 }
 
 // ---- text
@@ -82,10 +55,10 @@ fn put_number(out: &mut [u8], at: usize, n: u32) -> usize
     ensures { Puts 10 out.old at (decimal n) result out.new }
 {
     if n < 10 {
-        return put_byte(out, at, 48 + n as u8);
+        return put_byte(out, at, b'0' + n as u8);
     }
     let end = put_number(out, at, n / 10);
-    put_byte(out, end, 48 + (n % 10) as u8)
+    put_byte(out, end, b'0' + (n % 10) as u8)
 }
 
 // A letter and a number on a line.
@@ -106,7 +79,7 @@ fn put_report(out: &mut [u8], at: usize, a: ReportAnswer) -> usize
     if a.refusal == 0 {
         return put_numbered(out, at, b'R', a.number);
     }
-    put_numbered(out, at, b'E', a.refusal as u32)
+    put_numbered(out, at, b'E', u32::from(a.refusal))
 }
 
 // One place of a listing of kind 03.
@@ -134,10 +107,8 @@ fn put_places(out: &mut [u8], at: usize, numbers: &[u32]) -> usize
     ensures { Puts (11 * length numbers.now) out.old at (places_text numbers.now) result out.new }
 {
     let mut end = at;
-    let mut i = 0;
-    while i < numbers.len() {
-        end = put_place(out, end, numbers[i]);
-        i += 1;
+    for number in numbers {
+        end = put_place(out, end, *number);
     }
     end
 }
@@ -147,10 +118,8 @@ fn put_pairs(out: &mut [u8], at: usize, numbers: &[u32], counts: &[u32]) -> usiz
     ensures { Puts (22 * length numbers.now) out.old at (pairs_text numbers.now counts.now) result out.new }
 {
     let mut end = at;
-    let mut i = 0;
-    while i < numbers.len() {
-        end = put_pair(out, end, numbers[i], counts[i]);
-        i += 1;
+    for (number, count) in numbers.iter().zip(counts) {
+        end = put_pair(out, end, *number, *count);
     }
     end
 }
@@ -174,18 +143,14 @@ fn put_end(out: &mut [u8], at: usize, more: bool) -> usize
 fn byte_at(s: &[u8], i: usize) -> usize
     ensures { (result ≡ get_or s.now i 0) × (result < 256) }
 {
-    if i < s.len() { basics::wide(s[i]) } else { 0 }
+    usize::from(s.get(i).copied().unwrap_or(0))
 }
 
-fn kind_of(frame: &[u8]) -> Kind
+// The call that a frame's kind asks for, if any.
+fn kind_of(frame: &[u8]) -> Option<Kind>
     ensures { result ≡ kind_of frame.now }
 {
-    match byte_at(frame, 3) {
-        1 => Kind::Report,
-        2 => Kind::One,
-        3 => Kind::All,
-        _ => Kind::Other,
-    }
+    Kind::try_from(*frame.get(3)?).ok()
 }
 
 // A report.
@@ -198,14 +163,12 @@ fn answer_report(
     at: usize,
 ) -> Answer
     requires { at + longest_line ≤ length out.old }
-    ensures { Answers (answered_as Kind.Report (memory arena.old table.old k) frame.now) out.old at result (memory arena.new table.new result.counters) out.new }
+    ensures { Answers (answered_as (Some Kind.Report) (memory arena.old table.old k) frame.now) out.old at result (memory arena.new table.new result.counters) out.new }
 {
     let taken = ingest::take_report(arena, table, k, frame);
-    let answer = taken.answer;
-    let counters = taken.counters;
     Answer {
-        counters,
-        end: put_report(out, at, answer),
+        counters: taken.counters,
+        end: put_report(out, at, taken.answer),
     }
 }
 
@@ -219,13 +182,13 @@ fn answer_one(
     at: usize,
 ) -> usize
     requires { at + longest_line ≤ length out.old }
-    ensures { Puts longest_line out.old at (answered_as Kind.One (memory arena.now table.now k) frame.now).line result out.new }
+    ensures { Puts longest_line out.old at (answered_as (Some Kind.One) (memory arena.now table.now k) frame.now).line result out.new }
 {
     let mut numbers = [0u32; 16];
     let mut counts = [0u32; 16];
     let a = query::list_one(arena, table, k, frame, &mut numbers, &mut counts);
     if a.refusal != 0 {
-        return put_numbered(out, at, b'E', a.refusal as u32);
+        return put_numbered(out, at, b'E', u32::from(a.refusal));
     }
     let n = a.filled as usize;
     let b = put_byte(out, at, b'Q');
@@ -243,12 +206,12 @@ fn answer_all(
     at: usize,
 ) -> usize
     requires { at + longest_line ≤ length out.old }
-    ensures { Puts longest_line out.old at (answered_as Kind.All (memory arena.now table.now k) frame.now).line result out.new }
+    ensures { Puts longest_line out.old at (answered_as (Some Kind.All) (memory arena.now table.now k) frame.now).line result out.new }
 {
     let mut numbers = [0u32; 16];
     let a = query::list_all(arena, table, k, frame, &mut numbers);
     if a.refusal != 0 {
-        return put_numbered(out, at, b'E', a.refusal as u32);
+        return put_numbered(out, at, b'E', u32::from(a.refusal));
     }
     let n = a.filled as usize;
     let b = put_byte(out, at, b'Q');
@@ -258,12 +221,12 @@ fn answer_all(
 
 // The refusal of a kind that no call has: reading the frame as a report finds it.
 fn other_refusal(frame: &[u8]) -> u8
-    requires { kind_of frame.now ≡ Kind.Other }
+    requires { kind_of frame.now ≡ None }
     ensures { result ≡ other_refusal frame.now }
 {
     match frames::check_report(frame) {
-        Report::Refused(n) => n,
-        Report::Lines(_) => 3,
+        Err(refusal) => u8::from(refusal),
+        Ok(_) => 3,
     }
 }
 
@@ -280,18 +243,18 @@ fn answer_frame(
     ensures { Answers (answered (memory arena.old table.old k) frame.now) out.old at result (memory arena.new table.new result.counters) out.new }
 {
     match kind_of(frame) {
-        Kind::Report => answer_report(arena, table, k, frame, out, at),
-        Kind::One => Answer {
+        Some(Kind::Report) => answer_report(arena, table, k, frame, out, at),
+        Some(Kind::One) => Answer {
             counters: k,
             end: answer_one(arena, table, k, frame, out, at),
         },
-        Kind::All => Answer {
+        Some(Kind::All) => Answer {
             counters: k,
             end: answer_all(arena, table, k, frame, out, at),
         },
-        Kind::Other => Answer {
+        None => Answer {
             counters: k,
-            end: put_numbered(out, at, b'E', other_refusal(frame) as u32),
+            end: put_numbered(out, at, b'E', u32::from(other_refusal(frame))),
         },
     }
 }
@@ -320,18 +283,15 @@ fn frame_length(s: &[u8]) -> usize
     3 + body_length(s)
 }
 
-// How many bytes at the front can be judged now; 0 for none.
-fn ready_length(s: &[u8], ended: bool) -> usize
+// How many bytes at the front can be judged now, if any.
+fn ready_length(s: &[u8], ended: bool) -> Option<usize>
     ensures { result ≡ ready_length ended s.now }
 {
     let n = frame_length(s);
     if n <= s.len() {
-        return n;
+        return Some(n);
     }
-    if ended {
-        return s.len();
-    }
-    0
+    (ended && !s.is_empty()).then_some(s.len())
 }
 
 // Where no frame can be judged: the end, or a read.
@@ -357,18 +317,16 @@ fn settle(
     let mut written: usize = 0;
     while written + 356 <= out.len() {
         let rest = &input[taken..];
-        let n = ready_length(rest, ended);
-        if n == 0 {
+        let Some(n) = ready_length(rest, ended) else {
             return Settled {
                 next: waiting(ended),
                 counters,
                 taken,
                 written,
             };
-        }
+        };
         let a = answer_frame(arena, table, counters, &rest[..n], out, written);
-        let left = a.counters;
-        counters = left;
+        counters = a.counters;
         written = a.end;
         taken += n;
         if is_overlong(rest) {
@@ -388,21 +346,7 @@ fn settle(
     }
 }
 
-// Moves the bytes that are left to the front of the buffer, and tells how many they are.
-fn keep_rest(input: &mut [u8], from: usize, to: usize) -> usize
-    requires { (from ≤ to) × (to ≤ length input.old) }
-    ensures { (result ≡ to - from) × (input.new ≡ sets input.old 0 (take (to - from) (drop from input.old))) }
-{
-    let n = to - from;
-    let mut i = 0;
-    while i < n {
-        input[i] = input[from + i];
-        i += 1;
-    }
-    n
-}
-
-// Answers what can be answered of the bytes that are held, and keeps the rest.
+// Answers what can be answered of the bytes that are held, and moves those that are left to the front of the buffer.
 fn take_turn(
     arena: &mut [u8],
     table: &mut [u32],
@@ -411,35 +355,21 @@ fn take_turn(
     held: usize,
     ended: bool,
     out: &mut [u8],
-) -> Turn
+) -> Settled
     requires { held ≤ length input.old }
     ensures { Turns (memory arena.old table.old k) (take held input.old) ended out.old result (memory arena.new table.new result.counters) input.new out.new }
 {
     let s = settle(arena, table, k, &input[..held], ended, out);
-    let next = s.next;
-    let counters = s.counters;
-    let written = s.written;
-    Turn {
-        next,
-        counters,
-        held: keep_rest(input, s.taken, held),
-        written,
-    }
+    input.copy_within(s.taken..held, 0);
+    s
 }
 
-// Reads once, behind the bytes that are held. There is room for a byte, so nothing read means the end.
-fn read_more(rt: &HostRuntime, input: &mut [u8], held: usize) -> Piece
+// Reads once, behind the bytes that are held, of which there may be more. There is room for a byte, so nothing read means the end.
+fn read_more(rt: &HostRuntime, input: &mut [u8], held: usize) -> io::Result<usize>
     requires { held < length input.old }
     ensures { Reads input.old held result input.new }
 {
-    match rt.stdin().read(&mut input[held..]) {
-        Ok(0) => Piece::End,
-        Ok(n) => Piece::Bytes(n),
-        Err(_) => {
-            complain(rt, "desk: cannot read the frames");
-            Piece::Failed
-        }
-    }
+    rt.stdin().read(&mut input[held..])
 }
 
 // ---- the program
@@ -478,27 +408,25 @@ fn main(rt: HostRuntime) {
     };
     let mut held: usize = 0;
     let mut ended = false;
-    let mut turns = u64::MAX;
-    while 0 < turns {
-        turns -= 1;
+    'turns: for _ in 0..u64::MAX {
         let t = take_turn(
             &mut arena, &mut table, counters, &mut input, held, ended, &mut out,
         );
-        let written = t.written;
-        if !print(&rt, &out[..written]) {
+        if !print(&rt, &out[..t.written]) {
             return;
         }
-        let left = t.counters;
-        counters = left;
-        held = t.held;
-        let next = t.next;
-        match next {
+        counters = t.counters;
+        held -= t.taken;
+        match t.next {
             Next::Stop => return,
             Next::Settle => {}
             Next::Read => match read_more(&rt, &mut input, held) {
-                Piece::Bytes(n) => held += n,
-                Piece::End => ended = true,
-                Piece::Failed => return,
+                Ok(0) => ended = true,
+                Ok(n) => held += n,
+                Err(_) => {
+                    complain(&rt, "desk: cannot read the frames");
+                    return;
+                }
             },
         }
     }
