@@ -1,11 +1,11 @@
 -- Laws of the text: the digits of a number, and texts stored one behind the other.
 -- Assumes nothing.
 use Prim.Native.Nat.{ℕ, zero, suc, ◌+◌, ◌*◌, ◌/◌, ◌%◌, ◌≤◌, ◌<◌}
-use mathlib.Core.Path.{◌≡◌, refl, ap, ◌∙◌}
+use mathlib.Core.Path.{◌≡◌, refl, sym, ap, ◌∙◌}
 use mathlib.Core.List.{List, [], ◌∷◌, ◌++◌, append-nil, append_assoc}
 use native.Mathlib.Omega.{arith}
 use lib.ListN.{length, get_or, take, length-append}
-use lib.Seq.{length-sets, take_all}
+use lib.Seq.{length-sets}
 use borrow.Author.Tests.{lt-ltb, le-ltb}
 use Rattle.basics.proofs.Cases.{by-lt}
 use Rattle.basics.proofs.Stores.{sets_two}
@@ -74,15 +74,42 @@ places_more [] i h = absurd (omega arith)
 places_more (n ∷ numbers) zero h = rw append-nil
 places_more (n ∷ numbers) (suc i) h = let e : suc i + 1 ≡ suc (i + 1) = omega arith in rw (append_assoc, e, places_more numbers i (omega arith))
 
-pub pairs_more : (numbers counts : List ℕ) (i : ℕ) → i < length numbers → i < length counts → pairs_text (take i numbers) (take i counts) ++ pair_text (get_or numbers i 0) (get_or counts i 0) ≡ pairs_text (take (i + 1) numbers) (take (i + 1) counts)
-unfolding pairs_text
-pairs_more [] counts i h k = absurd (omega arith)
-pairs_more (n ∷ numbers) [] i h k = absurd (omega arith)
-pairs_more (n ∷ numbers) (f ∷ counts) zero h k = rw append-nil
-pairs_more (n ∷ numbers) (f ∷ counts) (suc i) h k = let e : suc i + 1 ≡ suc (i + 1) = omega arith in rw (append_assoc, e, pairs_more numbers counts i (omega arith) (omega arith))
-
-pub pairs_all : (numbers counts : List ℕ) (i : ℕ) → length numbers ≤ i → length counts ≤ i → pairs_text (take i numbers) (take i counts) ≡ pairs_text numbers counts
-pairs_all numbers counts i h k = rw (take_all i numbers h, take_all i counts k)
-
 pub puts-length : {p : ℕ} {s t : List ℕ} {i j : ℕ} {a : List ℕ} → Puts p s i a j t → length t ≡ length s
 puts-length {s = s} {i = i} {a = a} x = ap length x.stored ∙ length-sets s i a
+
+-- ---- the pairs of a listing: the texts of the first ones are put, those of `left` and `right` are not
+
+no_pairs : (left right : List ℕ) → length left ≡ 0 → pairs_text left right ≡ []
+unfolding pairs_text
+no_pairs [] right z = refl
+no_pairs (x ∷ left) right z = absurd (omega arith)
+
+pub record Putting (out : List ℕ) (at : ℕ) (numbers counts left right : List ℕ) (end : ℕ) (after : List ℕ) : Type 0 where
+  pub done : List ℕ
+  pub n : ℕ
+  pub puts : Puts (22 * n) out at done end after
+  pub split : pairs_text numbers counts ≡ done ++ pairs_text left right
+  pub all : n + length left ≡ length numbers
+  pub both : length left ≡ length right
+
+pub putting_start : (out : List ℕ) (at : ℕ) (numbers counts : List ℕ) → length numbers ≡ length counts → Putting out at numbers counts numbers counts at out
+putting_start out at numbers counts e = record { done = []; n = 0; puts = puts_none out at; split = refl; all = omega arith; both = e }
+
+module _ {out : List ℕ} {at : ℕ} {numbers counts left right : List ℕ} {end : ℕ} {after : List ℕ} (p : Putting out at numbers counts left right end after) where
+  -- there is room for one more
+  pub putting_room : {x : ℕ} {rest : List ℕ} → left ≡ x ∷ rest → at + 22 * length numbers ≤ length out → end + 22 ≤ length after
+  putting_room e h = omega (arith, p.puts.near, puts-length p.puts, p.all, ap length e)
+
+  pub putting_more : {x y : ℕ} {rest rest' : List ℕ} {end' : ℕ} {after' : List ℕ} → left ≡ x ∷ rest → right ≡ y ∷ rest' → Puts 22 after end (pair_text x y) end' after' → Putting out at numbers counts rest rest' end' after'
+  unfolding pairs_text
+  putting_more {x} {y} {rest} {rest'} e q h = record {
+    done = p.done ++ pair_text x y;
+    n = p.n + 1;
+    puts = puts_as (puts_then p.puts h) refl (omega arith);
+    split = p.split ∙ rw (e, q, append_assoc);
+    all = omega (arith, p.all, ap length e);
+    both = omega (arith, p.both, ap length e, ap length q);
+  }
+
+  pub putting_all : length left ≡ 0 → Puts (22 * length numbers) out at (pairs_text numbers counts) end after
+  putting_all z = puts_as p.puts (sym (p.split ∙ rw (no_pairs left right z) (append-nil p.done))) (omega (arith, p.all))

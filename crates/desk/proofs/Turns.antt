@@ -1,7 +1,7 @@
 -- A turn of the program, and the program turn after turn: what was read and written so far, and what is still to come.
 -- Assumes nothing.
 use Prim.Native.Nat.{ℕ, ◌+◌, ◌-◌, ◌≤◌}
-use mathlib.Core.Path.{◌≡◌, refl, ap, sym, ◌∙◌}
+use mathlib.Core.Path.{◌≡◌, refl, sym, ◌∙◌}
 use mathlib.Core.List.{List, [], ◌++◌, append-nil, append_assoc}
 use mathlib.Core.Bool.{Bool, true, false}
 use native.Mathlib.Omega.{arith}
@@ -26,10 +26,10 @@ module _ (input : List ℕ) (held taken : ℕ) (h : held ≤ length input) (t : 
       let e : length part ≡ held - taken = simp (length-take, length-drop) (omega arith) in
       take_at part _ (held - taken) e ∙ sym (drop-take taken held input)
 
-pub turned : {m : Memory} {input : List ℕ} {held : ℕ} {ended : Bool} {out : List ℕ} {r : Settled} {left : Memory} {after input' : List ℕ}
+pub turned : {m : Memory} (input : List ℕ) (held : ℕ) {ended : Bool} {out : List ℕ} {r : Settled} {left : Memory} {after input' : List ℕ}
     → held ≤ length input → Settles m (take held input) ended out r left after → input' ≡ copy_within input r.taken held 0
     → Turns m (take held input) ended out r left input' after
-turned {input = input} {held = held} {r = r} h v e =
+turned input held {r = r} h v e =
     let l : length (take held input) ≡ held = simp length-take (omega arith) in
     record { settles = v; moved = rw (l, e) (kept_front input held r.taken h (omega (arith, v.taken, l))) }
 

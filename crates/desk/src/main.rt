@@ -72,6 +72,7 @@ fn put_numbered(out: &mut [u8], at: usize, letter: u8, n: u32) -> usize
     put_byte(out, c, b'\n')
 }
 
+#[tactic(auto, unfolding(crate::specs::Text::report_line))]
 fn put_report(out: &mut [u8], at: usize, a: ReportAnswer) -> usize
     requires { at + 13 ≤ length out.old }
     ensures { Puts 13 out.old at (report_line a) result out.new }
@@ -83,6 +84,7 @@ fn put_report(out: &mut [u8], at: usize, a: ReportAnswer) -> usize
 }
 
 // One place of a listing of kind 03.
+#[tactic(auto, using(crate::proofs::Texts::puts_then), unfolding(crate::specs::Text::place_text))]
 fn put_place(out: &mut [u8], at: usize, number: u32) -> usize
     requires { at + 11 ≤ length out.old }
     ensures { Puts 11 out.old at (place_text number) result out.new }
@@ -147,6 +149,7 @@ fn byte_at(s: &[u8], i: usize) -> usize
 }
 
 // The call that a frame's kind asks for, if any.
+#[tactic(auto, unfolding(frames::specs::Frames::kind, crate::specs::Desk::kind_of))]
 fn kind_of(frame: &[u8]) -> Option<Kind>
     ensures { result ≡ kind_of frame.now }
 {
@@ -262,18 +265,21 @@ fn answer_frame(
 // ---- the input
 
 // The length that a frame's second and third byte give its body.
+#[tactic(auto, unfolding(frames::specs::Frames::body_length))]
 fn body_length(s: &[u8]) -> usize
     ensures { (result ≡ body_length s.now) × (result < 65536) }
 {
     byte_at(s, 1) * 256 + byte_at(s, 2)
 }
 
+#[tactic(auto, unfolding(crate::specs::Desk::overlong))]
 fn is_overlong(s: &[u8]) -> bool
     ensures { result ≡ overlong s.now }
 {
     4096 < body_length(s)
 }
 
+#[tactic(auto, unfolding(crate::specs::Desk::frame_length))]
 fn frame_length(s: &[u8]) -> usize
     ensures { result ≡ frame_length s.now }
 {
@@ -284,6 +290,7 @@ fn frame_length(s: &[u8]) -> usize
 }
 
 // How many bytes at the front can be judged now, if any.
+#[tactic(auto, unfolding(crate::specs::Needs::ready_length))]
 fn ready_length(s: &[u8], ended: bool) -> Option<usize>
     ensures { result ≡ ready_length ended s.now }
 {

@@ -4,8 +4,8 @@ use Rattle.counters.specs.Counters.{memory}
 use Rattle.desk.specs.Needs.{Reached}
 use Rattle.desk.proofs.main.Given as goal
 
-abbrev pub invariant-loop-turns : goal.invariant-loop-turns
-invariant-loop-turns l = record {
+abbrev pub invariant-turns : goal.invariant-turns
+invariant-turns l = record {
   arena_size : length l.arena ≡ 64000;
   table_size : length l.table ≡ 512;
   input_size : length l.input ≡ 65536;
@@ -13,6 +13,3 @@ invariant-loop-turns l = record {
   room : l.held ≤ length l.input;
   reached : Reached (memory l.arena l.table l.counters) (take l.held l.input) l.ended;
 }
-
-abbrev pub decreases-loop-turns : goal.decreases-loop-turns
-decreases-loop-turns l = l.turns
