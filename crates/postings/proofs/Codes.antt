@@ -13,6 +13,7 @@ use Rattle.std.specs.Prelude.{None}
 use Rattle.postings.specs.declared.Decoded.{Decoded}
 use Rattle.postings.specs.Coding.{threshold, max_gap, max_count, max_first, max_second, vbyte, code, valued, posting, value, at_most, onto, second, first, decoded}
 use Rattle.basics.proofs.Cases.{by-lt}
+use Rattle.basics.proofs.Stores.{sets_behind}
 use Rattle.postings.proofs.Values.{value-last, value_more, onto-number, value-vbyte, Front, View, view}
 
 -- a posting that is found says which numbers were found
@@ -33,6 +34,9 @@ code_high g f h = rw (le-ltb f threshold h)
 
 pub length_high : (g f : ℕ) → threshold ≤ f → length (code g f) ≡ length (vbyte (g * threshold)) + length (vbyte (f - 3))
 length_high g f h = rw (code_high g f h, length-append)
+
+-- what a code is and how long, and that its second value is stored behind the first
+pub ruleset coded = (code_low, code_high, length_high, sets_behind)
 
 pub at_most_lem : (m v l : ℕ) → v ≤ m → at_most m (valued v l) ≡ valued v l
 unfolding at_most

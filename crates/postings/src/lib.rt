@@ -93,7 +93,7 @@ fn value_length(v: u64) -> usize
 }
 
 // How many bytes code a posting.
-#[tactic(auto, using(crate::proofs::Codes::length_high, crate::proofs::Codes::code_low))]
+#[tactic(auto, using(crate::proofs::Codes::coded))]
 pub fn posting_length(gap: u32, count: u32) -> usize
     requires { 0 < gap }
     ensures { result ≡ length (code gap count) }
@@ -124,7 +124,7 @@ fn put_value(s: &mut [u8], at: usize, v: u64) -> usize
 }
 
 // Writes a posting from `at` on, and returns the offset past it.
-#[tactic(auto, using(crate::proofs::Codes::code_low, crate::proofs::Codes::code_high, crate::proofs::Codes::length_high, basics::proofs::Stores::sets_behind))]
+#[tactic(auto, using(crate::proofs::Codes::coded))]
 pub fn put_posting(s: &mut [u8], at: usize, gap: u32, count: u32) -> usize
     requires { (0 < gap) × (at + length (code gap count) ≤ length s.old) }
     ensures { (result ≡ at + length (code gap count)) × (s.new ≡ sets s.old at (code gap count)) }

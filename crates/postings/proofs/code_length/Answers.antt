@@ -8,4 +8,6 @@ use Rattle.postings.proofs.code_length.Goals as goal
 
 pub returns : goal.returns
 unfolding code_length
-returns c = c.from.ensures ∙ eqb→eq _ _ (at (λ bits entry. eqb entry (code_length bits)) CODE_LENGTHS tt c.args.bits c.requires)
+returns c =
+    c.from.ensures
+    ∙ eqb→eq _ _ (at (λ bits entry. eqb entry (code_length bits)) CODE_LENGTHS tt c.args.bits c.requires)

@@ -8,6 +8,8 @@ use Rattle.sums.proofs.total_of.Goals as goal
 
 pub sum-requires-clause-fits : goal.sum-requires-clause-fits
 sum-requires-clause-fits c =
-    fits_by_from_yields_list (λ x. x) c.args.lanes.now c.map.result _
-    (YieldsList-from_map _ (λ x. x) (YieldsList-from_slice c.args.lanes.now cc) c.map.ensures.closure (λ x r q k. search (rules, tests)))
-    (omega (arith, sum_by-le (λ x. x) 255 c.args.lanes.now (All-from_get_or (λ x. x ≤ 255) c.args.lanes.now 0 (λ k h. omega arith))))
+    let xs = c.args.lanes.now in
+    let bytes = All-from_get_or (λ x. x ≤ 255) xs 0 (λ k h. omega arith) in
+    fits_by_from_yields_list (λ x. x) xs c.map.result _
+    (YieldsList-from_map _ (λ x. x) (YieldsList-from_slice xs cc) c.map.ensures.closure (λ x r q k. search (rules, tests)))
+    (omega (arith, sum_by-le (λ x. x) 255 xs bytes))
