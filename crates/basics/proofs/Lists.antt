@@ -25,7 +25,7 @@ and_left false b e = e
 
 pub and_right : (a b : Bool) → a && b ≡ true → b ≡ true
 and_right true b e = e
-and_right false b e = let z : ◌≡◌ {A = ℕ} 0 1 = cc in absurd (omega arith)
+and_right false b e = cc
 
 pub and-false : (a : Bool) → a && false ≡ false
 and-false true = refl
@@ -118,7 +118,7 @@ or_left true b e = e
 or_left false b e = refl
 
 pub or_right : (a b : Bool) → a || b ≡ false → b ≡ false
-or_right true b e = let z : ◌≡◌ {A = ℕ} 0 1 = cc in absurd (omega arith)
+or_right true b e = cc
 or_right false b e = e
 
 -- ---- the same list

@@ -3,19 +3,14 @@
 use mathlib.Core.Path.{◌≡◌}
 use mathlib.Core.Bool.{false}
 use mathlib.Core.List.{List}
-use Prim.Native.Nat.{ℕ, ◌+◌, ◌-◌, ◌≤◌, ◌<◌}
-use native.Mathlib.Omega.{arith}
+use Prim.Native.Nat.{ℕ, ◌+◌, ◌≤◌}
 use Rattle.std.proofs.lemmas.Bool.Decides.{nat_tests}
-use borrow.Author.Tests.{lt-ltb, le-ltb, le-leb, lt-leb}
-use lib.Dec.{ltb}
 use lib.ListN.{length, get_or, take, drop}
 use Rattle.basics.specs.Lists.{same}
-use Rattle.basics.proofs.Cases.{by-lt, by-eq}
-use Rattle.basics.proofs.Lists.{and-false, ne_same}
+use Rattle.basics.proofs.Lists.{ne_same}
 use Rattle.terms.specs.Terms.{max_term}
 use Rattle.blocks.specs.Fields.{block_size, head_fixed, place, name_of}
 use Rattle.blocks.proofs.Names.{named_length}
-use Rattle.lookup.specs.Lookup.{length_behind}
 
 module _ (a : List ℕ) (b : ℕ) (w : List ℕ) where
   -- a head with a length of its own holds another term

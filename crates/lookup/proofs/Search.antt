@@ -50,7 +50,8 @@ unfolding next_slot
 next_last t s e = rw (eq-eqb (s + 1) t e)
 
 pub next_lt : (t s : ℕ) → s < t → next_slot t s < t
-next_lt t s h = by-eq (s + 1) t (λ e. rw (next_last t s e) (omega arith)) (λ n. rw (next_plain t s n) (omega arith))
+unfolding next_slot
+next_lt t s h = grind (arith, nat_tests)
 
 -- slot k is met: fewer than `left` slots on from slot s of t, and those before it are filled
 pub data Way (t : ℕ) (table : List ℕ) : ℕ → ℕ → ℕ → Type 0 where
@@ -83,18 +84,8 @@ module _ (table : List ℕ) (hash : ℕ) where
 
 -- entering a term into an empty slot leaves an entry that is there
 pub first-enter : (table : List ℕ) (hash s b : ℕ) → get_or table s 0 ≡ 0 → 0 < first_entry table hash → first_entry (enter table s b) hash ≡ first_entry table hash
-unfolding enter
-first-enter table hash s b z h =
-    by-eq (slots table) 0
-    (λ n. absurd (omega (arith, first-none table hash n)))
-    (λ n.
-    let k = hash % slots table in
-    let some : 0 < slots table = omega arith in
-    let there = first_some table hash some in
-    let other : k ≡ s → ⊥ = λ q. let e : get_or table k 0 ≡ 0 = rw q z in omega arith in
-    first_some (enter table s b) hash (rw (slots-enter table s b) some)
-    ∙ rw (slots-enter table s b) (get_or-set_other table s k (b + 1) 0 other)
-    ∙ sym there)
+unfolding enter slots first_entry
+first-enter table hash s b z h = grind (arith, nat_tests, length-set, get_or-set_other)
 
 -- ---- a search from a slot on
 
@@ -146,18 +137,18 @@ module _ (a : List ℕ) (used : ℕ) (table w : List ℕ) where
           found n (record { below = l; named = same_eq (name_of a (block s)) w e })
           (rw (ne_eqb (get_or table s 0) 0 n, lt-ltb (block s) used l, e))
       compared n l false e =
-          passed n (λ q. let z : ◌≡◌ {A = ℕ} 0 1 = cc (eq_same (name_of a (block s)) w q) in absurd (omega arith))
+          passed n (λ q. cc (eq_same (name_of a (block s)) w q))
           (rw (ne_eqb (get_or table s 0) 0 n, lt-ltb (block s) used l, e))
 
   -- what is found is used, and holds the name
   from_at : (left s b : ℕ) → from left s ≡ Ok (At b) → Stands a used w b
   unfolding search_from
-  from_at zero s b e = let z : ◌≡◌ {A = ℕ} 0 1 = cc in absurd (omega arith)
+  from_at zero s b e = cc
   from_at (suc left) s b e = go (step left s) (from_at left (next s) b)
     where
       go : Step left s → (from left (next s) ≡ Ok (At b) → Stands a used w b) → Stands a used w b
-      go (vacant z q) ih = let z : ◌≡◌ {A = ℕ} 0 1 = cc in absurd (omega arith)
-      go (unused n g q) ih = let z : ◌≡◌ {A = ℕ} 0 1 = cc in absurd (omega arith)
+      go (vacant z q) ih = cc
+      go (unused n g q) ih = cc
       go (found n m q) ih =
           let z : block s ≡ b = cc in
           rw z at m
@@ -166,7 +157,7 @@ module _ (a : List ℕ) (used : ℕ) (table w : List ℕ) where
   -- where nothing is found a slot is empty
   pub from_unknown : (left s k : ℕ) → s < slots table → from left s ≡ Ok (Unknown k) → Vacant (slots table) table left s k
   unfolding search_from
-  from_unknown zero s k h e = let z : ◌≡◌ {A = ℕ} 0 1 = cc in absurd (omega arith)
+  from_unknown zero s k h e = cc
   from_unknown (suc left) s k h e = go (step left s) (from_unknown left (next s) k (next_lt (slots table) s h))
     where
       further : (get_or table s 0 ≡ 0 → ⊥) → Vacant (slots table) table left (next s) k → Vacant (slots table) table (suc left) s k
@@ -176,28 +167,9 @@ module _ (a : List ℕ) (used : ℕ) (table w : List ℕ) where
       go (vacant n q) ih =
           let z : s ≡ k = cc in
           rw (← z) record { way = here; inside = h; empty = n }
-      go (unused n g q) ih = let z : ◌≡◌ {A = ℕ} 0 1 = cc in absurd (omega arith)
-      go (found n m q) ih = let z : ◌≡◌ {A = ℕ} 0 1 = cc in absurd (omega arith)
+      go (unused n g q) ih = cc
+      go (found n m q) ih = cc
       go (passed n m q) ih = further n (ih (sym q ∙ e))
-
--- ---- a match at the first entry
-
-module _ (b e : ℕ) where
-  pub hit_here : b + 1 ≡ e → first_hit (Ok (At b)) e ≡ e
-  unfolding first_hit
-  hit_here q = rw (eq-eqb (b + 1) e q)
-
-  pub hit_other : (b + 1 ≡ e → ⊥) → first_hit (Ok (At b)) e ≡ 0
-  unfolding first_hit
-  hit_other n = rw (ne_eqb (b + 1) e n)
-
-pub hit_unknown : (s e : ℕ) → first_hit (Ok (Unknown s)) e ≡ 0
-unfolding first_hit
-hit_unknown s e = refl
-
-pub hit_refused : (r : Refusal) (e : ℕ) → first_hit (Err r) e ≡ 0
-unfolding first_hit
-hit_refused r e = refl
 
 -- ---- the whole search
 
@@ -216,7 +188,7 @@ module _ (a : List ℕ) (used : ℕ) (table w : List ℕ) where
   pub search-at : (b : ℕ) → search a used table w ≡ Ok (At b) → Stands a used w b
   search-at b e =
       by-eq (slots table) 0
-      (λ n. let z : ◌≡◌ {A = ℕ} 0 1 = cc (search-none n) in absurd (omega arith))
+      (λ n. cc (search-none n))
       (λ n. from_at a used table w (slots table) (fnv1a w % slots table) b (sym (search-some (omega arith)) ∙ e))
 
   -- the slot of an unknown term is empty
@@ -228,29 +200,25 @@ module _ (a : List ℕ) (used : ℕ) (table w : List ℕ) where
 
   -- a first entry that leads to a used block with the name ends the search
   pub search-first : (e : ℕ) → e ≡ first_entry table (fnv1a w) → 0 < e → e ≤ used → name_of a (e - 1) ≡ w → search a used table w ≡ Ok (At (e - 1))
+  unfolding first_entry
   search-first e p low high named =
-      by-eq (slots table) 0
-      (λ n. let z : e ≡ 0 = p ∙ first-none table (fnv1a w) n in absurd (omega arith))
-      (λ n.
-      let some : 0 < slots table = omega arith in
-      let q : get_or table (fnv1a w % slots table) 0 ≡ e = sym (p ∙ first_some table (fnv1a w) some) in
-      search-some some
-      ∙ from_some a used table w (slots table) (fnv1a w % slots table) some
-      ∙ rw (q, ne_eqb e 0 (λ x. omega arith), lt-ltb (e - 1) used (omega arith), eq_same (name_of a (e - 1)) w named))
+      let some : 0 < slots table = grind (arith, nat_tests) in
+      let same_name = eq_same (name_of a (e - 1)) w named in
+      let here = from_some a used table w (slots table) (fnv1a w % slots table) some in
+      let begin = search-some some in
+      grind (arith, nat_tests)
 
   -- a search that ended at its first entry: what it found
   pub hit_found : (e : ℕ) → e ≡ first_hit (search a used table w) (first_entry table (fnv1a w)) → 0 < e → (search a used table w ≡ Ok (At (e - 1))) × (e ≡ first_entry table (fnv1a w))
+  unfolding first_hit
   hit_found e p h = go (search a used table w) refl p
     where
-      at : (b : ℕ) → search a used table w ≡ Ok (At b) → b + 1 ≡ first_entry table (fnv1a w) → e ≡ first_entry table (fnv1a w) → (search a used table w ≡ Ok (At (e - 1))) × (e ≡ first_entry table (fnv1a w))
-      at b q i p =
-          let z : b ≡ e - 1 = omega arith in
-          (rw (← z) q, p)
-
       go : (x : Result Found Refusal) → search a used table w ≡ x → e ≡ first_hit x (first_entry table (fnv1a w)) → (search a used table w ≡ Ok (At (e - 1))) × (e ≡ first_entry table (fnv1a w))
-      go (Ok (At b)) q p = by-eq (b + 1) (first_entry table (fnv1a w)) (λ i. at b q i (p ∙ hit_here b _ i)) (λ n. absurd (omega (arith, p ∙ hit_other b _ n)))
-      go (Ok (Unknown s)) q p = absurd (omega (arith, p ∙ hit_unknown s _))
-      go (Err r) q p = absurd (omega (arith, p ∙ hit_refused r _))
+      go (Ok (At b)) q p =
+          let z : b ≡ e - 1 = grind (arith, nat_tests) in
+          (rw (← z) q, grind (arith, nat_tests))
+      go (Ok (Unknown s)) q p = absurd (omega arith)
+      go (Err r) q p = absurd (omega arith)
 
 -- what the turns of a search take
 pub ruleset searching = (nat_tests, slots_le, from_some, from-none, search-none, search-some, next_plain, next_last)
