@@ -9,7 +9,7 @@ use native.Mathlib.Omega.{arith}
 use native.Mathlib.Nat.{add-zero, zero-add}
 use lib.Dec.{eqb}
 use lib.ListN.{length, drop}
-use borrow.Author.Tests.{eq-eqb}
+use borrow.Author.Tests.{lt-ltb, le-ltb, eq-eqb}
 use Rattle.basics.proofs.Cases.{by-lt}
 use Rattle.postings.specs.Coding.{decoded}
 use Rattle.postings.specs.declared.Decoded.{Decoded}
@@ -19,7 +19,7 @@ use Rattle.blocks.specs.Prescribed.{Posting}
 use Rattle.blocks.specs.Fields.{place, link_of, head_of, part_of}
 use Rattle.chains.specs.declared.Cursor.{Cursor}
 use Rattle.chains.specs.declared.PartRead.{PartRead}
-use Rattle.chains.specs.Chains.{Stepped, stepped, at_end, damage, part_end, exhausted, given, read_at, entered, next_block, step_at, Reading, damaged, whole, onto, follow, run, at_head, bad_head, last_from, agreeing, chain_of, is_whole, Follows}
+use Rattle.chains.specs.Chains.{Stepped, stepped, at_end, damage, part_end, exhausted, given, read_at, entered, next_block, step_at, Reading, damaged, whole, onto, follow, run, linked, at_head, bad_head, last_from, agreeing, chain_of, is_whole, Follows}
 use Rattle.chains.specs.Parts.{InPart, passed, part_read}
 use Rattle.chains.proofs.Steps.{part_within, past, given-none, given_low, given-over, given-at, read_gave, next-none, next_out, next-at, step_end, step_next, step_here}
 use Rattle.chains.proofs.Parts.{part_drop, step_first, read_in_part, Within, here, on, passed-within, stopped_damage}
@@ -252,12 +252,17 @@ module _ {a : List ℕ} {used reports h : ℕ} {d : Head} {c : Cursor} {n : ℕ}
       pub none_left : c.left ≡ 0 → is_whole (chain_of a used reports h) ≡ false
       none_left z = broken v.counted (goes ∙ next-none a used reports c z)
 
-      pub unlinked : used ≤ link_of a c.block → is_whole (chain_of a used reports h) ≡ false
-      unlinked u = broken v.counted (goes ∙ next_out a used reports c u)
+      pub unlinked : linked a used c.block ≡ None → is_whole (chain_of a used reports h) ≡ false
+      unlinked q =
+          by-lt (link_of a c.block) used (λ u. cc (rw (lt-ltb (link_of a c.block) used u) at q)) (λ u. broken v.counted (goes ∙ next_out a used reports c u))
 
-      pub next_entering : (c.left ≡ 0 → ⊥) → link_of a c.block < used → Entering a used reports h d (entered c (link_of a c.block)) c.first n
+      pub next_entering : (c.left ≡ 0 → ⊥) → {b : ℕ} → linked a used c.block ≡ Some b → Entering a used reports h d (entered c b) c.first n
       unfolding entered
-      next_entering z u =
+      next_entering z {b} q =
+          by-lt (link_of a c.block) used
+          (λ u.
+          let e : b ≡ link_of a c.block = cc (rw (lt-ltb (link_of a c.block) used u) at q) in
           let f = v.counted.follows in
-          entering v.counted (entered c (link_of a c.block)) c.first (record { inside = f.inside; in_use = u; end_in = f.end_in }) refl refl v.first_in_lem
-          (goes ∙ next-at a used reports c (link_of a c.block) refl z u)
+          entering v.counted (entered c b) c.first (record { inside = f.inside; in_use = rw e u; end_in = f.end_in }) refl refl v.first_in_lem
+          (goes ∙ next-at a used reports c b e z (rw e u)))
+          (λ u. cc (rw (le-ltb (link_of a c.block) used u) at q))

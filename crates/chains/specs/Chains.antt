@@ -48,6 +48,10 @@ given reports c base None = damage
 unfoldable pub read_at : List ℕ → ℕ → Cursor → ℕ → Stepped
 read_at a reports c base = given reports c base (decoded (part_of a c.block c.at (part_end c c.block)))
 
+-- the block that a block's link leads to, where it is used
+abbrev pub linked : List ℕ → ℕ → ℕ → Option ℕ
+linked a used b = cond (ltb (link_of a b) used) (Some (link_of a b)) None
+
 -- the start of block b, behind the one at the cursor
 unfoldable pub entered : Cursor → ℕ → Cursor
 entered c b = record c { block = b; at = link_size; first = 0; left = c.left - 1 }

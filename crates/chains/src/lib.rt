@@ -4,7 +4,7 @@
 ghost use Rattle.std.specs.Prelude.{◌≡◌, cond, false, ◌&&◌, ℕ, ◌+◌, ◌≤◌, ◌<◌, ltb, eqb, length};
 ghost use Rattle.sums.specs.Adding.{Bounded};
 ghost use Rattle.blocks.specs.Fields.{max_word, block_size, place, link_of, part_of};
-ghost use Rattle.chains.specs.Chains.{part_end, exhausted, read_at, entered, next_block, step_at, step_from, at_head, bad_head, chain_of, is_whole, Follows};
+ghost use Rattle.chains.specs.Chains.{part_end, exhausted, read_at, entered, next_block, step_at, step_from, at_head, bad_head, chain_of, is_whole, linked, Follows};
 ghost use Rattle.chains.specs.Parts.{passed, moved_to, passed_to, InPart, Known, part_read};
 
 use blocks::Head;
@@ -82,6 +82,15 @@ fn read_at(arena: &[u8], reports: u32, c: Cursor, base: u32) -> Result<Option<St
     }))
 }
 
+// The block that a block's link leads to, where it is used.
+fn linked(arena: &[u8], used: u32, b: u32) -> Option<u32>
+    requires { (place used ≤ length arena.now) × (b < used) }
+    ensures { result ≡ linked arena.now used b }
+{
+    let next = blocks::link_of(arena, b);
+    (next < used).then_some(next)
+}
+
 // The start of block b, behind the one at the cursor.
 #[tactic(auto, unfolding(crate::specs::Chains::entered))]
 fn entered(c: Cursor, b: u32) -> Cursor
@@ -103,14 +112,10 @@ pub fn next_block(arena: &[u8], used: u32, reports: u32, c: Cursor) -> Result<Op
     requires { Follows arena.now used c × (4 ≤ c.end) }
     ensures { result ≡ next_block arena.now used reports c }
 {
-    if c.left == 0 {
-        return Err(Refusal::Damaged);
+    match linked(arena, used, c.block) {
+        Some(b) if 0 < c.left => read_at(arena, reports, entered(c, b), c.first),
+        _ => Err(Refusal::Damaged),
     }
-    let b = blocks::link_of(arena, c.block);
-    if used <= b {
-        return Err(Refusal::Damaged);
-    }
-    read_at(arena, reports, entered(c, b), c.first)
 }
 
 // One posting after another: the one at the cursor with the cursor past it; none at the chain's end.
@@ -322,17 +327,6 @@ fn read_part(arena: &[u8], reports: u32, c: Cursor, base: u32) -> Option<PartRea
     Some(PartRead { first, rest })
 }
 
-// The link of a block, where it is used.
-fn link_ahead(arena: &[u8], used: u32, b: u32) -> u32
-    requires { place used ≤ length arena.now }
-    ensures { result ≡ cond (ltb b used) (link_of arena.now b) 0 }
-{
-    if b < used {
-        return blocks::link_of(arena, b);
-    }
-    0
-}
-
 // Whether n postings up to a number are those that a head says.
 fn agrees(d: Head, n: u32, number: u32) -> bool
     ensures { result ≡ eqb n d.postings && eqb number d.last }
@@ -351,11 +345,11 @@ pub fn is_sound(arena: &[u8], used: u32, reports: u32, h: u32) -> bool
         return false;
     }
     let mut c = at_head(d, used, h);
-    let mut next = blocks::link_of(arena, h);
+    let mut next = linked(arena, used, h);
     let mut base: u32 = 0;
     let mut n: u32 = 0;
     loop {
-        let after = link_ahead(arena, used, next);
+        let after = next.and_then(|b| linked(arena, used, b));
         let Some(r) = read_part(arena, reports, c, base) else {
             return false;
         };
@@ -375,10 +369,13 @@ pub fn is_sound(arena: &[u8], used: u32, reports: u32, h: u32) -> bool
         if c.block == c.tail {
             return agrees(d, n, c.number);
         }
-        if c.left == 0 || used <= next {
+        if c.left == 0 {
             return false;
         }
-        c = entered(c, next);
+        let Some(b) = next else {
+            return false;
+        };
+        c = entered(c, b);
         next = after;
         base = r.first;
     }

@@ -1,11 +1,11 @@
 -- Each turn reads a block, and what is left to read, judged by the postings counted so far, stays the answer.
-use Rattle.std.proofs.Common.{◌+◌, sym, ap, ◌∙◌, arith, lt-ltb}
+use Rattle.std.proofs.Common.{rules, ◌≡◌, ◌+◌, sym, ap, ◌∙◌, arith}
 use Rattle.blocks.proofs.Fields.{head-short}
 use Rattle.chains.specs.declared.Cursor.{Cursor}
-use Rattle.chains.specs.Chains.{at_head, entered}
+use Rattle.chains.specs.Chains.{at_head, entered, linked}
 use Rattle.chains.proofs.Counting.{unsound, start, after, not_read, not_begun, Read, part_counted, tail_ended, part_broken, none_left, unlinked, next_entering}
 use Rattle.chains.proofs.is_sound.Goals as goal
-use Rattle.chains.proofs.is_sound.Goals.{Else-r-c, then-c-eq0-via-then-c-eq0, then-c-eq0-via-else-c-eq0+then-used-next}
+use Rattle.chains.proofs.is_sound.Goals.{Else-r-c}
 
 -- the length of the term is a byte
 pub is_bad_head-requires : goal.is_bad_head-requires
@@ -23,7 +23,7 @@ loop-r-init c = record {
   entering =
       rw c.at_head-c.ensures
       (start _ _ _ _ c.head_of-d.ensures c.requires.0 c.requires.1 (sym c.is_bad_head.ensures ∙ c.if-is_bad_head.false));
-  linked = rw c.at_head-c.ensures c.link_of-next.ensures;
+  next_is = rw c.at_head-c.ensures c.linked-next.ensures;
 }
 
 pub returns-in_default : goal.returns-in_default
@@ -54,12 +54,11 @@ returns-then-c c =
 
 pub returns-then-c-eq0 : goal.returns-then-c-eq0
 returns-then-c-eq0 c =
-    let v = read (goal.at.returns-then-c-eq0 c).Else-r-c in
-    let i = sym c.is_exhausted.ensures ∙ c.if-not-is_exhausted.false in
-    sym (elim c.then-c-eq0.branch [
-      | then-c-eq0-via-then-c-eq0 w ↦ none_left v i c.if-c.false w.if-c-eq0.true
-      | then-c-eq0-via-else-c-eq0+then-used-next w ↦ unlinked v i c.if-c.false (omega (arith, w.if-used-next.true, c.loop-r.invariant.linked))
-    ])
+    sym (none_left (read (goal.at.returns-then-c-eq0 c).Else-r-c) (sym c.is_exhausted.ensures ∙ c.if-not-is_exhausted.false) c.if-c.false c.if-c-eq0.true)
+
+pub returns-in_default-next : goal.returns-in_default-next
+returns-in_default-next c = sym (unlinked (read (goal.at.returns-in_default-next c).Else-r-c) (sym c.is_exhausted.ensures ∙ c.if-not-is_exhausted.false) c.if-c.false
+    (sym c.loop-r.invariant.next_is ∙ c.in_default-next.is))
 
 pub loop-r-smaller : goal.loop-r-smaller
 unfolding entered
@@ -70,8 +69,8 @@ unfolding entered
 loop-r-preserved c =
     let v = read (goal.at.loop-r-preserved c).Else-r-c in
     let i = sym c.is_exhausted.ensures ∙ c.if-not-is_exhausted.false in
-    let l = c.loop-r.invariant.linked in
+    let after_is : c.and_then-after.result ≡ linked c.args.arena.now c.args.used c.in-Some-next.b = search rules in
     record {
-      entering = rw (c.entered-c.ensures, l) (next_entering v i c.if-c.false c.if-c-eq0.false (omega (arith, c.if-used-next.false, l)));
-      linked = rw c.entered-c.ensures (c.link_ahead-after.ensures ∙ rw (lt-ltb _ _ c.if-used-next.false));
+      entering = rw c.entered-c.ensures (next_entering v i c.if-c.false c.if-c-eq0.false (sym c.loop-r.invariant.next_is ∙ c.in-Some-next.is));
+      next_is = rw c.entered-c.ensures after_is;
     }

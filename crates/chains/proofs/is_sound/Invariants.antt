@@ -1,11 +1,11 @@
 use Rattle.std.proofs.Common.{◌≡◌}
-use Rattle.blocks.specs.Fields.{link_of}
+use Rattle.chains.specs.Chains.{linked}
 use Rattle.chains.proofs.Counting.{Entering}
 use Rattle.chains.proofs.is_sound.Given as goal
 
 abbrev pub invariant-loop-r : goal.invariant-loop-r
 invariant-loop-r l =
-    record { entering : Entering l.arena l.used l.reports l.h l.d l.c l.base l.n; linked : l.next ≡ link_of l.arena l.c.block }
+    record { entering : Entering l.arena l.used l.reports l.h l.d l.c l.base l.n; next_is : l.next ≡ linked l.arena l.used l.c.block }
 
 abbrev pub decreases-loop-r : goal.decreases-loop-r
 decreases-loop-r l = l.c.left
