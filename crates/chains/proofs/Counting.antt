@@ -10,7 +10,7 @@ use native.Mathlib.Nat.{add-zero, zero-add}
 use lib.Dec.{eqb}
 use lib.ListN.{length, drop}
 use borrow.Author.Tests.{lt-ltb, le-ltb, eq-eqb}
-use Rattle.basics.proofs.Cases.{by-lt}
+use Rattle.basics.proofs.Cases.{by-lt, by-eq}
 use Rattle.postings.specs.Coding.{decoded}
 use Rattle.postings.specs.declared.Decoded.{Decoded}
 use Rattle.postings.proofs.Laws.{decoded-within}
@@ -19,7 +19,7 @@ use Rattle.blocks.specs.Prescribed.{Posting}
 use Rattle.blocks.specs.Fields.{place, link_of, head_of, part_of}
 use Rattle.chains.specs.declared.Cursor.{Cursor}
 use Rattle.chains.specs.declared.PartRead.{PartRead}
-use Rattle.chains.specs.Chains.{Stepped, stepped, at_end, damage, part_end, exhausted, given, read_at, entered, next_block, step_at, Reading, damaged, whole, onto, follow, run, linked, at_head, bad_head, last_from, agreeing, chain_of, is_whole, Follows}
+use Rattle.chains.specs.Chains.{Stepped, stepped, at_end, damage, part_end, exhausted, given, read_at, entered, next_block, step_at, Reading, damaged, whole, onto, follow, run, linked, entered_at, at_head, bad_head, last_from, agreeing, chain_of, is_whole, Follows}
 use Rattle.chains.specs.Parts.{InPart, passed, part_read}
 use Rattle.chains.proofs.Steps.{part_within, past, given-none, given_low, given-over, given-at, read_gave, next-none, next_out, next-at, step_end, step_next, step_here}
 use Rattle.chains.proofs.Parts.{part_drop, step_first, read_in_part, Within, here, on, passed-within, stopped_damage}
@@ -233,6 +233,13 @@ module _ {a : List ℕ} {used reports h : ℕ} {d : Head} {k : Cursor} {base n :
     pub part_counted : k.number < r.first → Read a used reports h d (after k r) (n + (1 + r.rest.postings))
     part_counted l = all_read (decoded (drop k.at part)) refl i l
 
+-- what a cursor at the start of the next block says: more blocks can come, the link leads there, and the cursor stands there
+pub entered_is : (c : Cursor) (next : Option ℕ) (e : Cursor) → entered_at c next ≡ Some e → (0 < c.left) × (next ≡ Some e.block) × (e ≡ entered c e.block)
+unfolding entered
+entered_is c None e q = cc
+entered_is c (Some b) e q =
+    by-lt 0 c.left (λ z. let p : e ≡ entered c b = cc (rw (lt-ltb 0 c.left z) at q) in rw p (z, refl, refl)) (λ z. cc (rw (le-ltb 0 c.left z) at q))
+
 -- behind a part that was read
 module _ {a : List ℕ} {used reports h : ℕ} {d : Head} {c : Cursor} {n : ℕ} (v : Read a used reports h d c n) where
   begins : c.first ≡ 0 → ⊥
@@ -249,20 +256,23 @@ module _ {a : List ℕ} {used reports h : ℕ} {d : Head} {c : Cursor} {n : ℕ}
       goes : step_at a used reports c ≡ next_block a used reports c
       goes = step_next a used reports c i begins t
 
-      pub none_left : c.left ≡ 0 → is_whole (chain_of a used reports h) ≡ false
-      none_left z = broken v.counted (goes ∙ next-none a used reports c z)
-
-      pub unlinked : linked a used c.block ≡ None → is_whole (chain_of a used reports h) ≡ false
+      pub unlinked : entered_at c (linked a used c.block) ≡ None → is_whole (chain_of a used reports h) ≡ false
       unlinked q =
-          by-lt (link_of a c.block) used (λ u. cc (rw (lt-ltb (link_of a c.block) used u) at q)) (λ u. broken v.counted (goes ∙ next_out a used reports c u))
+          by-eq c.left 0 (λ z. broken v.counted (goes ∙ next-none a used reports c z))
+          (λ z.
+          by-lt (link_of a c.block) used
+          (λ u. cc (rw (lt-ltb (link_of a c.block) used u, lt-ltb 0 c.left (omega arith)) at q))
+          (λ u. broken v.counted (goes ∙ next_out a used reports c u)))
 
-      pub next_entering : (c.left ≡ 0 → ⊥) → {b : ℕ} → linked a used c.block ≡ Some b → Entering a used reports h d (entered c b) c.first n
+      pub next_entering : {e : Cursor} → entered_at c (linked a used c.block) ≡ Some e → Entering a used reports h d e c.first n
       unfolding entered
-      next_entering z {b} q =
+      next_entering {e} q =
+          let w = entered_is c (linked a used c.block) e q in
           by-lt (link_of a c.block) used
           (λ u.
-          let e : b ≡ link_of a c.block = cc (rw (lt-ltb (link_of a c.block) used u) at q) in
+          let p : e.block ≡ link_of a c.block = cc (rw (lt-ltb (link_of a c.block) used u) at w.1) in
           let f = v.counted.follows in
-          entering v.counted (entered c b) c.first (record { inside = f.inside; in_use = rw e u; end_in = f.end_in }) refl refl v.first_in_lem
-          (goes ∙ next-at a used reports c b e z (rw e u)))
-          (λ u. cc (rw (le-ltb (link_of a c.block) used u) at q))
+          subst (λ (x : Cursor). Entering a used reports h d x c.first n) (sym w.2)
+          (entering v.counted (entered c e.block) c.first (record { inside = f.inside; in_use = rw p u; end_in = f.end_in }) refl refl v.first_in_lem
+          (goes ∙ next-at a used reports c e.block p (λ z. omega (arith, w.0, z)) (rw p u))))
+          (λ u. cc (rw (le-ltb (link_of a c.block) used u) at w.1))

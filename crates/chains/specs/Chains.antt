@@ -56,6 +56,11 @@ linked a used b = cond (ltb (link_of a b) used) (Some (link_of a b)) None
 unfoldable pub entered : Cursor → ℕ → Cursor
 entered c b = record c { block = b; at = link_size; first = 0; left = c.left - 1 }
 
+-- there, where the link leads to a used block and there are not more blocks than used
+abbrev pub entered_at : Cursor → Option ℕ → Option Cursor
+entered_at c (Some b) = cond (ltb 0 c.left) (Some (entered c b)) None
+entered_at c None = None
+
 -- the next block: damage if it is not used, or there are more blocks than used. Its first posting carries a b-gap
 unfoldable pub next_block : List ℕ → ℕ → ℕ → Cursor → Stepped
 next_block a used reports c =

@@ -4,7 +4,7 @@
 ghost use Rattle.std.specs.Prelude.{◌≡◌, cond, false, ◌&&◌, ℕ, ◌+◌, ◌≤◌, ◌<◌, ltb, eqb, length};
 ghost use Rattle.sums.specs.Adding.{Bounded};
 ghost use Rattle.blocks.specs.Fields.{max_word, block_size, place, link_of, part_of};
-ghost use Rattle.chains.specs.Chains.{part_end, exhausted, read_at, entered, next_block, step_at, step_from, at_head, bad_head, chain_of, is_whole, linked, Follows};
+ghost use Rattle.chains.specs.Chains.{part_end, exhausted, read_at, entered_at, next_block, step_at, step_from, at_head, bad_head, chain_of, is_whole, linked, Follows};
 ghost use Rattle.chains.specs.Parts.{passed, moved_to, passed_to, InPart, Known, part_read};
 
 use blocks::Head;
@@ -91,18 +91,20 @@ fn linked(arena: &[u8], used: u32, b: u32) -> Option<u32>
     (next < used).then_some(next)
 }
 
-// The start of block b, behind the one at the cursor.
+// The start of the next block: none where the link leads to no used one, or there are more blocks than used.
 #[tactic(auto, unfolding(crate::specs::Chains::entered))]
-fn entered(c: Cursor, b: u32) -> Cursor
-    requires { 0 < c.left }
-    ensures { result ≡ entered c b }
+fn entered(c: Cursor, next: Option<u32>) -> Option<Cursor>
+    ensures { result ≡ entered_at c next }
 {
-    Cursor {
-        block: b,
-        at: 4,
-        first: 0,
-        left: c.left - 1,
-        ..c
+    match next {
+        Some(b) if 0 < c.left => Some(Cursor {
+            block: b,
+            at: 4,
+            first: 0,
+            left: c.left - 1,
+            ..c
+        }),
+        _ => None,
     }
 }
 
@@ -112,10 +114,8 @@ pub fn next_block(arena: &[u8], used: u32, reports: u32, c: Cursor) -> Result<Op
     requires { Follows arena.now used c × (4 ≤ c.end) }
     ensures { result ≡ next_block arena.now used reports c }
 {
-    match linked(arena, used, c.block) {
-        Some(b) if 0 < c.left => read_at(arena, reports, entered(c, b), c.first),
-        _ => Err(Refusal::Damaged),
-    }
+    let next = entered(c, linked(arena, used, c.block)).ok_or(Refusal::Damaged)?;
+    read_at(arena, reports, next, c.first)
 }
 
 // One posting after another: the one at the cursor with the cursor past it; none at the chain's end.
@@ -369,13 +369,10 @@ pub fn is_sound(arena: &[u8], used: u32, reports: u32, h: u32) -> bool
         if c.block == c.tail {
             return agrees(d, n, c.number);
         }
-        if c.left == 0 {
-            return false;
-        }
-        let Some(b) = next else {
+        let Some(e) = entered(c, next) else {
             return false;
         };
-        c = entered(c, b);
+        c = e;
         next = after;
         base = r.first;
     }

@@ -1,9 +1,9 @@
 -- Each turn reads a block, and what is left to read, judged by the postings counted so far, stays the answer.
-use Rattle.std.proofs.Common.{rules, ◌≡◌, ◌+◌, sym, ap, ◌∙◌, arith}
+use Rattle.std.proofs.Common.{rules, ◌≡◌, Some, ◌+◌, sym, ap, ◌∙◌, arith}
 use Rattle.blocks.proofs.Fields.{head-short}
 use Rattle.chains.specs.declared.Cursor.{Cursor}
-use Rattle.chains.specs.Chains.{at_head, entered, linked}
-use Rattle.chains.proofs.Counting.{unsound, start, after, not_read, not_begun, Read, part_counted, tail_ended, part_broken, none_left, unlinked, next_entering}
+use Rattle.chains.specs.Chains.{at_head, entered}
+use Rattle.chains.proofs.Counting.{unsound, start, after, not_read, not_begun, Read, part_counted, tail_ended, part_broken, unlinked, entered_is, next_entering}
 use Rattle.chains.proofs.is_sound.Goals as goal
 use Rattle.chains.proofs.is_sound.Goals.{Else-r-c}
 
@@ -52,25 +52,24 @@ returns-then-c c =
     c.agrees.ensures
     ∙ sym (tail_ended (read (goal.at.returns-then-c c).Else-r-c) (sym c.is_exhausted.ensures ∙ c.if-not-is_exhausted.false) c.if-c.true)
 
-pub returns-then-c-eq0 : goal.returns-then-c-eq0
-returns-then-c-eq0 c =
-    sym (none_left (read (goal.at.returns-then-c-eq0 c).Else-r-c) (sym c.is_exhausted.ensures ∙ c.if-not-is_exhausted.false) c.if-c.false c.if-c-eq0.true)
-
-pub returns-in_default-next : goal.returns-in_default-next
-returns-in_default-next c = sym (unlinked (read (goal.at.returns-in_default-next c).Else-r-c) (sym c.is_exhausted.ensures ∙ c.if-not-is_exhausted.false) c.if-c.false
-    (sym c.loop-r.invariant.next_is ∙ c.in_default-next.is))
+pub returns-in_default-entered : goal.returns-in_default-entered
+returns-in_default-entered c =
+    sym (unlinked (read (goal.at.returns-in_default-entered c).Else-r-c) (sym c.is_exhausted.ensures ∙ c.if-not-is_exhausted.false) c.if-c.false
+    (rw c.loop-r.invariant.next_is at (sym c.entered.ensures) ∙ c.in_default-entered.is))
 
 pub loop-r-smaller : goal.loop-r-smaller
 unfolding entered
-loop-r-smaller c = omega (arith, ap (λ (x : Cursor). x.left) c.entered-c.ensures)
+loop-r-smaller c =
+    let w = entered_is (after c.loop-r.c c.in-Some.r) c.loop-r.next c.in-Some-entered.e (sym c.entered.ensures ∙ c.in-Some-entered.is) in
+    omega (arith, w.0, ap (λ (x : Cursor). x.left) w.2)
 
 pub loop-r-preserved : goal.loop-r-preserved
-unfolding entered
 loop-r-preserved c =
-    let v = read (goal.at.loop-r-preserved c).Else-r-c in
-    let i = sym c.is_exhausted.ensures ∙ c.if-not-is_exhausted.false in
-    let after_is : c.and_then-after.result ≡ linked c.args.arena.now c.args.used c.in-Some-next.b = search rules in
+    let q = sym c.entered.ensures ∙ c.in-Some-entered.is in
+    let next_at : c.loop-r.next ≡ Some c.in-Some-entered.e.block = (entered_is (after c.loop-r.c c.in-Some.r) c.loop-r.next c.in-Some-entered.e q).1 in
     record {
-      entering = rw c.entered-c.ensures (next_entering v i c.if-c.false c.if-c-eq0.false (sym c.loop-r.invariant.next_is ∙ c.in-Some-next.is));
-      next_is = rw c.entered-c.ensures after_is;
+      entering =
+          next_entering (read (goal.at.loop-r-preserved c).Else-r-c) (sym c.is_exhausted.ensures ∙ c.if-not-is_exhausted.false) c.if-c.false
+          (rw c.loop-r.invariant.next_is at q);
+      next_is = search rules;
     }
