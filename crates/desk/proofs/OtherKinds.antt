@@ -17,18 +17,6 @@ module _ (f : List ℕ) where
   unfolding kind_of
   kind-report e = rw e
 
-  pub kind-one : kind f ≡ 2 → kind_of f ≡ Some One
-  unfolding kind_of
-  kind-one e = rw e
-
-  pub kind-all : kind f ≡ 3 → kind_of f ≡ Some All
-  unfolding kind_of
-  kind-all e = rw e
-
-  pub kind_other : (kind f ≡ 1 → ⊥) → (kind f ≡ 2 → ⊥) → (kind f ≡ 3 → ⊥) → kind_of f ≡ None
-  unfolding kind_of
-  kind_other a b c = rw (ne_eqb _ _ a, ne_eqb _ _ b, ne_eqb _ _ c)
-
   -- a kind other than 01 gives 1, 2 or 3 when the frame is read as a report
   pub other_report : (kind f ≡ 1 → ⊥) → report_refusal f ≡ other_refusal f
   unfolding report_refusal report_rows head_rows field_rows wrong_kind other_refusal first_of

@@ -2,21 +2,17 @@
 -- Assumes nothing.
 use mathlib.Core.Path.{◌≡◌, refl, sym, ap, ◌∙◌}
 use mathlib.Core.Bool.{Bool, true, false}
-use mathlib.Core.List.{List, [], ◌∷◌}
-use Prim.Native.Nat.{ℕ, ◌≤◌, ◌<◌}
+use mathlib.Core.List.{List, ◌∷◌}
+use Prim.Native.Nat.{ℕ, ◌<◌}
 use native.Mathlib.Omega.{arith}
 use lib.ListN.{length}
 use Rattle.basics.specs.Lists.{any}
 use Rattle.terms.specs.Terms.{is_term}
 use Rattle.frames.specs.Frames.{term_at, past_field, fields, bad_term}
-use Rattle.frames.proofs.Fields.{fields_end, fields_more}
+use Rattle.frames.proofs.Fields.{fields_more}
 
--- refusal 5 over a list of fields: none of none is bad; a field that is not a term decides, one that is a term is passed over
+-- refusal 5 over a list of fields: one that is not a term decides, one that is a term is passed over
 module _ (f : List ℕ) where
-  bad_none : bad_term f [] ≡ false
-  unfolding bad_term any
-  bad_none = refl
-
   module _ (at : ℕ) (ats : List ℕ) where
     bad_first : is_term (term_at f at) ≡ false → bad_term f (at ∷ ats) ≡ true
     unfolding bad_term any
@@ -27,9 +23,6 @@ module _ (f : List ℕ) where
     bad_rest e = rw e
 
 module _ (tail : ℕ) (f : List ℕ) (at : ℕ) where
-  pub bad_end : length f ≤ at → bad_term f (fields tail f at) ≡ false
-  bad_end h = ap (bad_term f) (fields_end tail f at h) ∙ bad_none f
-
   module _ (h : at < length f) where
     pub bad_here : is_term (term_at f at) ≡ false → bad_term f (fields tail f at) ≡ true
     bad_here e = ap (bad_term f) (fields_more tail f at h) ∙ bad_first f at _ e

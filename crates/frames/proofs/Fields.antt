@@ -5,7 +5,6 @@ use mathlib.Core.Bool.{Bool, true, false}
 use mathlib.Core.List.{List, [], ◌∷◌}
 use Prim.Native.Nat.{ℕ, zero, suc, ◌+◌, ◌≤◌, ◌<◌}
 use native.Mathlib.Omega.{arith}
-use native.Mathlib.Numerals.{add-one}
 use lib.ListN.{length}
 use borrow.Author.Tests.{lt-ltb, le-ltb}
 use Rattle.basics.specs.Lists.{any}
@@ -74,20 +73,3 @@ module _ (tail : ℕ) (f : List ℕ) where
   pub field_term : (at : ℕ) → Field tail f at → Field 0 f at
   unfolding past_field
   field_term at h = record { starts = h.starts; ends = omega arith }
-
-  -- ---- a test at every field, one after the other
-
-  pub any_end : (test : ℕ → Bool) (at : ℕ) → length f ≤ at → any test (fields tail f at) ≡ false
-  unfolding any
-  any_end test at h = rw (fields_end at h)
-
-  pub any_here : (test : ℕ → Bool) (at : ℕ) → at < length f → test at ≡ true → any test (fields tail f at) ≡ true
-  unfolding any
-  any_here test at h e = rw (fields_more at h, e)
-
-  pub any-on : (test : ℕ → Bool) (at : ℕ) → at < length f → test at ≡ false → any test (fields tail f at) ≡ any test (fields tail f (past_field tail f at))
-  unfolding any
-  any-on test at h e = rw (fields_more at h, e)
-
-  pub length_more : (at : ℕ) → at < length f → length (fields tail f at) ≡ length (fields tail f (past_field tail f at)) + 1
-  length_more at h = rw (fields_more at h, add-one)

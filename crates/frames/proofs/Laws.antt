@@ -92,11 +92,6 @@ query_some most f e =
     )
 
 -- so whole fields that are terms stand from there on
-pub lines_ready : (f : List ℕ) → report_refusal f ≡ 0 → (passes_end count_bytes f first_line ≡ false) × (bad_term f (lines f) ≡ false)
-lines_ready f z =
-    let r : SoundReport f = sound-report f z in
-    (r.uncut, r.good)
-
 pub terms_ready : (k most : ℕ) (f : List ℕ) (q : Query) → query_refusal k most f ≡ 0 → IsQuery f q
     → (passes_end 0 f q.terms.at ≡ false) × (bad_term f (fields 0 f q.terms.at) ≡ false)
 terms_ready k most f q z p =
@@ -118,9 +113,6 @@ module _ (f : List ℕ) (at : ℕ) where
 
 pub lines_more : (f : List ℕ) (at : ℕ) → at < length f → map (line_at f) (fields count_bytes f at) ≡ line_at f at ∷ map (line_at f) (fields count_bytes f (past_field count_bytes f at))
 lines_more f at h = rw (fields_more count_bytes f at h)
-
-pub lines_end : (f : List ℕ) (at : ℕ) → length f ≤ at → map (line_at f) (fields count_bytes f at) ≡ []
-lines_end f at h = rw (fields_end count_bytes f at h)
 
 -- ---- one term of a query after another
 

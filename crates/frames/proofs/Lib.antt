@@ -5,6 +5,5 @@ pub mod Walk
 pub mod Conditions
 pub mod Read
 pub mod Repeats
-pub mod Queries
 pub mod Reports
 pub mod Laws

@@ -7,10 +7,10 @@ use Prim.Native.Nat.{ℕ, ◌+◌, ◌-◌, ◌*◌, ◌≤◌, ◌<◌}
 use native.Mathlib.Numerals.{add-one}
 use native.Mathlib.Omega.{arith}
 use lib.Dec.{eqb}
-use lib.ListN.{length, get_or, set, take, drop, length-set, length-take, length-append, length-map, take-append-drop}
+use lib.ListN.{length, get_or, set, take, drop, length-set, length-take, length-map, take-append-drop}
 use lib.Seq.{take-take, take-suc-set, length-take-le}
 use Rattle.std.proofs.lemmas.List.{take_at}
-use Rattle.basics.proofs.Parts.{drop-take, rest_here, rest_in, rest-next}
+use Rattle.basics.proofs.Parts.{drop-take}
 use Rattle.basics.specs.Lists.{any}
 use Rattle.basics.proofs.Cases.{by-lt}
 use Rattle.terms.specs.Terms.{folded, fnv1a, is_term}
@@ -45,21 +45,7 @@ module _ (f : List ℕ) (at : ℕ) where
   unfolding hashes_of
   hashes_more h = rw (fields_more count_bytes f at h)
 
-  -- the hash of the line here, and those behind it
-  module _ {n : ℕ} {hashes : List ℕ} (p : Hashed f at n hashes) (h : at < length f) where
-    line_first : drop n hashes ≡ fnv1a (folded_at f at) ∷ (hashes_of f (fields count_bytes f (past_field count_bytes f at)) ++ p.rest)
-    line_first = p.is ∙ rw (hashes_more h)
-
-    pub hash_here : get_or hashes n 0 ≡ fnv1a (folded_at f at)
-    hash_here = rest_here hashes n line_first 0
-
-    pub hash_in : n < length hashes
-    hash_in = rest_in hashes n line_first
-
-    pub hash-on : Hashed f (past_field count_bytes f at) (n + 1) hashes
-    hash-on = record { rest = p.rest; is = rest-next hashes n line_first }
-
--- the same where there are no others than those of the lines from here on
+-- where there are no others than those of the lines from here on
 module _ (f : List ℕ) (at : ℕ) {hashes : List ℕ} (e : hashes ≡ hashes_of f (fields count_bytes f at)) where
   pub hashes-some : 0 < length hashes → at < length f
   hashes-some h = by-lt at (length f) (λ l. l) (λ l. let n : length hashes ≡ 0 = ap length (e ∙ hashes_end f at l) in absurd (omega arith))
@@ -76,11 +62,6 @@ module _ (f : List ℕ) (at : ℕ) {hashes : List ℕ} (e : hashes ≡ hashes_of
 
     pub other-hashes : rest ≡ hashes_of f (fields count_bytes f (past_field count_bytes f at))
     other-hashes = cc both
-
--- there is a hash for each line from an offset on
-pub hashes_enough : (f : List ℕ) (at : ℕ) {hashes : List ℕ} → Hashed f at 0 hashes → length (fields count_bytes f at) ≤ length hashes
-unfolding hashes_of
-hashes_enough f at p = omega (arith, simp (length-append, length-map) at (ap length p.is))
 
 -- those of all lines are the first of them
 pub all-hashes : (f : List ℕ) {hashes : List ℕ} (n : ℕ) → Hashed f first_line 0 hashes → n ≡ length (lines f) → take n hashes ≡ hashes_of f (lines f)

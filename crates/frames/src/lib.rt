@@ -323,7 +323,7 @@ pub fn check_report(frame: &[u8]) -> Result<usize, Refusal>
 }
 
 // A query's frame of the given kind with at most `most` terms.
-#[tactic(auto, using(crate::proofs::Queries::query_head), unfolding(crate::specs::Refusals::first_of, crate::specs::Frames::wrong_terms, crate::specs::Frames::head_rows, crate::specs::Frames::query_rows, crate::specs::Frames::query_refusal, crate::specs::Frames::query_start))]
+#[tactic(auto, unfolding(crate::specs::Refusals::first_of, crate::specs::Frames::wrong_terms, crate::specs::Frames::head_rows, crate::specs::Frames::query_rows, crate::specs::Frames::query_refusal, crate::specs::Frames::query_start))]
 fn check_query(frame: &[u8], kind: Kind, most: usize) -> Result<Query, Refusal>
     ensures refused { refused_under result ≡ query_refusal (byte_of kind) most frame.now }
     ensures parts { IfOk result (λ q. IsQuery frame.now q) }

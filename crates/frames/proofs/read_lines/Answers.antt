@@ -1,4 +1,4 @@
-use Rattle.std.proofs.Common.{ℕ, ◌≡◌, ◌≤◌, ◌+◌, ◌||◌, Bool, not, eqb, length, List, refl, sym, ap, ◌∙◌, set}
+use Rattle.std.proofs.Common.{ℕ, ◌≡◌, ◌≤◌, ◌+◌, ◌||◌, Bool, not, eqb, length, List, refl, ap, ◌∙◌, set}
 use Rattle.terms.specs.declared.Judged.{Judged}
 use Rattle.terms.specs.Terms.{is_term, fnv1a, judged_as}
 use Rattle.terms.proofs.Laws.{judged_term, judged_hash}
@@ -7,7 +7,7 @@ use Rattle.frames.specs.declared.Cursors.{Cursors}
 use Rattle.frames.specs.Frames.{max_body, count_bytes, term_at, count_at, past_field, folded_at}
 use Rattle.frames.proofs.Fields.{field_term}
 use Rattle.frames.proofs.Walk.{Turn, over-first, over-turn, over-end, turn-field}
-use Rattle.frames.proofs.Reports.{fields-cut, fields_bad, fields-zero, fields-none}
+use Rattle.frames.proofs.Reports.{field_first}
 use Rattle.frames.proofs.Read.{Reading, reading_none, reading_whole, reading_bad, reading_zero, reading_count, reading_hashed, reading_cut, reading_more}
 use Rattle.frames.proofs.read_lines.Goals as goal
 
@@ -29,7 +29,8 @@ loop-c-init c =
 pub returns-then-frame-past-clause-refused : goal.returns-then-frame-past-clause-refused
 returns-then-frame-past-clause-refused c =
     let t = over-turn c.loop-c.invariant.over c.in-Some.ensures.steps in
-    sym (fields-cut _ (reading_cut c.loop-c.invariant.read t.starts (rw (← t.here, ← c.past.ensures) c.if-frame-past.true)))
+    let e = reading_cut c.loop-c.invariant.read t.starts (rw (← t.here, ← c.past.ensures) c.if-frame-past.true) in
+    rw (field_first, e)
 
 pub name-requires : goal.name-requires
 name-requires c =
@@ -55,19 +56,19 @@ pub returns-then-bad-clause-refused : goal.returns-then-bad-clause-refused
 returns-then-bad-clause-refused c =
     let r = c.loop-c.invariant.read in
     let h = over-end c.loop-c.invariant.over c.in-None.ensures.steps.0 in
-    sym (fields_bad _ (reading_whole r h) (reading_bad r h ∙ c.if-bad.true))
+    rw (field_first, reading_whole r h, reading_bad r h, c.if-bad.true)
 
 pub returns-then-zero-clause-refused : goal.returns-then-zero-clause-refused
 returns-then-zero-clause-refused c =
     let r = c.loop-c.invariant.read in
     let h = over-end c.loop-c.invariant.over c.in-None.ensures.steps.0 in
-    sym (fields-zero _ (reading_whole r h) (reading_bad r h ∙ c.if-bad.false) (reading_zero r h ∙ c.if-zero.true))
+    rw (field_first, reading_whole r h, reading_bad r h, c.if-bad.false, reading_zero r h, c.if-zero.true)
 
 pub returns-clause-refused : goal.returns-clause-refused
 returns-clause-refused c =
     let r = c.loop-c.invariant.read in
     let h = over-end c.loop-c.invariant.over c.in-None.ensures.steps.0 in
-    sym (fields-none _ (reading_whole r h) (reading_bad r h ∙ c.if-bad.false) (reading_zero r h ∙ c.if-zero.false))
+    rw (field_first, reading_whole r h, reading_bad r h, c.if-bad.false, reading_zero r h, c.if-zero.false)
 
 pub returns-clause-count : goal.returns-clause-count
 returns-clause-count c =

@@ -1,5 +1,4 @@
-use Rattle.std.proofs.Common.{ℕ, inl, inr, ◌≡◌, ◌<◌, ◌%◌, ◌*◌, ◌∷◌, List, Bool, true, false, Iter, get_or, set, refl, sym, ap, ◌∙◌, arith}
-use Rattle.std.specs.Slice.Iter.{iter_rest}
+use Rattle.std.proofs.Common.{ℕ, inl, inr, ◌≡◌, ◌<◌, ◌%◌, ◌*◌, ◌∷◌, List, Bool, true, false, get_or, set, refl, sym, ap, ◌∙◌, arith}
 use Rattle.frames.specs.declared.Cursor.{Cursor}
 use Rattle.frames.specs.declared.Cursors.{Cursors}
 use Rattle.frames.specs.Frames.{count_bytes, fields, lines, folded_at, repeated_term}
