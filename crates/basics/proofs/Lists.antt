@@ -2,20 +2,18 @@
 -- Assumes nothing.
 use Prim.Native.Nat.{ℕ, zero, suc, ◌+◌, ◌<◌}
 use mathlib.Core.Path.{◌≡◌, refl}
-use mathlib.Core.Bool.{Bool, true, false, ◌&&◌, ◌||◌, and_assoc}
+use mathlib.Core.Bool.{Bool, true, false, ◌&&◌, ◌||◌}
 use mathlib.Core.List.{List, [], ◌∷◌, ◌++◌, map}
 use native.Mathlib.Omega.{arith}
-use native.Mathlib.Numerals.{add-one}
 use native.Mathlib.Nat.{le_of_suc-le-suc}
 use Rattle.std.proofs.lemmas.Slice.Eq.{bytes_eq-Decides}
 use lib.ListN.{length, get_or, take, drop}
-use lib.Seq.{drop-cons}
 pub use lib.Seq.{take-nil}
 pub use Rattle.std.proofs.lemmas.List.{drop-replicate}
 use Rattle.std.proofs.lemmas.List.{take_more}
 use Rattle.std.proofs.lemmas.Bool.{false_from_ne_true}
-use Rattle.std.specs.List.{list_all, list_any}
-use Rattle.basics.specs.Lists.{all, any, keep, same}
+use Rattle.std.proofs.lemmas.List.Folds.{list_all-append, list_all-map}
+use Rattle.basics.specs.Lists.{all, keep, same}
 
 -- ---- conjunctions
 
@@ -45,16 +43,10 @@ module _ {A : Type 0} (f : A → Bool) where
   all-at (x ∷ s) d e zero h = and_left (f x) (all f s) e
   all-at (x ∷ s) d e (suc i) h = all-at s d (and_right (f x) (all f s) e) i (le_of_suc-le-suc h)
 
-  -- the test at the elements from the i-th on: at the i-th, and at those behind it
-  pub all_drop : (s : List A) (d : A) (i : ℕ) → i < length s → all f (drop i s) ≡ f (get_or s i d) && all f (drop (i + 1) s)
-  unfolding all
-  all_drop s d i h = rw (add-one, drop-cons s i d)
-
   -- the test at the elements of two lists, one behind the other
   pub all_append : (s t : List A) → all f (s ++ t) ≡ all f s && all f t
   unfolding all
-  all_append [] t = refl
-  all_append (x ∷ s) t = rw (all_append s t, and_assoc)
+  all_append s t = list_all-append f s t
 
   -- the test at one element more
   pub all_more : (s : List A) (d : A) (i : ℕ) → i < length s → all f (take (i + 1) s) ≡ (all f (take i s) && f (get_or s i d))
@@ -64,21 +56,7 @@ module _ {A : Type 0} (f : A → Bool) where
   -- the test at what a map makes of each element
   pub all_map : {B : Type 0} (g : B → A) (s : List B) → all f (map g s) ≡ all (λ x. f (g x)) s
   unfolding all
-  all_map g [] = refl
-  all_map g (x ∷ s) = rw (all_map g s)
-
--- ---- the same by the library's words, which chains of iterators speak of
-
-module _ {A : Type 0} (f : A → Bool) where
-  pub all-list : (s : List A) → all f s ≡ list_all f s
-  unfolding all
-  all-list [] = refl
-  all-list (x ∷ s) = rw (all-list s)
-
-  pub any-list : (s : List A) → any f s ≡ list_any f s
-  unfolding any
-  any-list [] = refl
-  any-list (x ∷ s) = rw (any-list s)
+  all_map g s = list_all-map f g s
 
 -- ---- the elements that a test keeps
 
