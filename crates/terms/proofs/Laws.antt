@@ -19,6 +19,11 @@ use Rattle.terms.specs.Terms.{max_term, allowed, capital, fold_byte, folded, is_
 
 -- ---- a byte
 
+-- the allowed bytes are those from 21 to 7E
+pub allowed_range : (b : ℕ) → allowed b ≡ true → (0x21 ≤ b) × (b ≤ 0x7e)
+unfolding allowed
+allowed_range b e = grind (arith, nat_tests)
+
 -- a byte folds to 0 exactly when it is barred: barred bytes do, allowed ones do not
 pub barred_fold : (b : ℕ) → allowed b ≡ false → fold_byte b ≡ 0
 unfolding fold_byte
@@ -116,6 +121,11 @@ term-allowed-at s e = all-at allowed s 0 (term-allowed s e)
 pub is_term-allowed : (s : List ℕ) → 1 ≤ length s → length s ≤ max_term → is_term s ≡ all allowed s
 unfolding is_term
 is_term-allowed s l h = rw (le-leb 1 (length s) l, le-leb (length s) max_term h)
+
+-- a list of more bytes than a term has is none
+pub is_term_long : (s : List ℕ) → max_term < length s → is_term s ≡ false
+unfolding is_term
+is_term_long s h = grind (arith, nat_tests)
 
 -- a list is a term exactly when its folded bytes are
 pub is_term-folded : (s : List ℕ) → is_term (folded s) ≡ is_term s
