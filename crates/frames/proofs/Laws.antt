@@ -114,6 +114,9 @@ module _ (f : List ℕ) (at : ℕ) where
 pub lines_more : (f : List ℕ) (at : ℕ) → at < length f → map (line_at f) (fields count_bytes f at) ≡ line_at f at ∷ map (line_at f) (fields count_bytes f (past_field count_bytes f at))
 lines_more f at h = rw (fields_more count_bytes f at h)
 
+pub lines_end : (f : List ℕ) (at : ℕ) → length f ≤ at → map (line_at f) (fields count_bytes f at) ≡ []
+lines_end f at h = rw (fields_end count_bytes f at h)
+
 -- ---- one term of a query after another
 
 pub terms_more : (f : List ℕ) (at : ℕ) → at < length f → map (folded_at f) (fields 0 f at) ≡ folded_at f at ∷ map (folded_at f) (fields 0 f (past_field 0 f at))
