@@ -227,11 +227,11 @@ module _ {a : List ℕ} {used reports h : ℕ} {d : Head} {k : Cursor} {base n :
   not_read i = unread_damage (no_first (decoded (drop k.at part)) refl i)
 
   module _ {r : PartRead} (i : Some r ≡ part_read part reports k.at base) where
-    pub not_begun : r.first ≤ k.number → is_whole (chain_of a used reports h) ≡ false
-    not_begun l = unread_damage (not_past (decoded (drop k.at part)) refl i l)
+    pub not-begun : r.first ≤ k.number → is_whole (chain_of a used reports h) ≡ false
+    not-begun l = unread_damage (not_past (decoded (drop k.at part)) refl i l)
 
-    pub part_counted : k.number < r.first → Read a used reports h d (after k r) (n + (1 + r.rest.postings))
-    part_counted l = all_read (decoded (drop k.at part)) refl i l
+    pub block_read : k.number < r.first → Read a used reports h d (after k r) (n + (1 + r.rest.postings))
+    block_read l = all_read (decoded (drop k.at part)) refl i l
 
 -- what a cursor at the start of the next block says: more blocks can come, the link leads there, and the cursor stands there
 pub entered_is : (c : Cursor) (next : Option ℕ) (e : Cursor) → entered_at c next ≡ Some e → (0 < c.left) × (next ≡ Some e.block) × (e ≡ entered c e.block)
@@ -249,8 +249,8 @@ module _ {a : List ℕ} {used reports h : ℕ} {d : Head} {c : Cursor} {n : ℕ}
   part_broken i = broken v.counted (v.early i)
 
   module _ (i : exhausted a c ≡ true) where
-    pub tail_ended : c.block ≡ c.tail → is_whole (chain_of a used reports h) ≡ eqb n d.postings && eqb c.number d.last
-    tail_ended t = ended v.counted (step_end a used reports c i begins t)
+    pub tail-ended : c.block ≡ c.tail → is_whole (chain_of a used reports h) ≡ eqb n d.postings && eqb c.number d.last
+    tail-ended t = ended v.counted (step_end a used reports c i begins t)
 
     module _ (t : c.block ≡ c.tail → ⊥) where
       goes : step_at a used reports c ≡ next_block a used reports c

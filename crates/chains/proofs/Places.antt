@@ -26,5 +26,5 @@ module _ (a : List ℕ) (used reports : ℕ) (c : Cursor) where
   from_place r u f h = rw (le-leb used (capacity a) r, lt-ltb c.block used u, le-leb link_size c.end f, le-leb c.end block_size h)
 
 -- what following needs of a place in a used block
-pub place_follows : (a : List ℕ) (used : ℕ) (c : Cursor) → used ≤ capacity a → c.block < used → c.end ≤ block_size → Follows a used c
-place_follows a used c r u h = record { inside = used-inside a used r; in_use = u; end_in = h }
+pub place-follows : (a : List ℕ) (used : ℕ) (c : Cursor) → used ≤ capacity a → c.block < used → c.end ≤ block_size → Follows a used c
+place-follows a used c r u h = record { inside = used-inside a used r; in_use = u; end_in = h }

@@ -3,7 +3,7 @@ use Rattle.std.proofs.Common.{rules, ◌≡◌, Some, ◌+◌, sym, ap, ◌∙�
 use Rattle.blocks.proofs.Fields.{head-short}
 use Rattle.chains.specs.declared.Cursor.{Cursor}
 use Rattle.chains.specs.Chains.{at_head, entered}
-use Rattle.chains.proofs.Counting.{unsound, start, after, not_read, not_begun, Read, part_counted, tail_ended, part_broken, unlinked, entered_is, next_entering}
+use Rattle.chains.proofs.Counting.{unsound, start, after, not_read, not-begun, Read, block_read, tail-ended, part_broken, unlinked, entered_is, next_entering}
 use Rattle.chains.proofs.is_sound.Goals as goal
 use Rattle.chains.proofs.is_sound.Goals.{Else-r-c}
 
@@ -30,12 +30,12 @@ pub returns-in_default : goal.returns-in_default
 returns-in_default c = sym (not_read c.loop-r.invariant.entering (sym c.in_default.is ∙ c.read_part.ensures))
 
 pub returns-then-r-c : goal.returns-then-r-c
-returns-then-r-c c = sym (not_begun c.loop-r.invariant.entering (sym c.in-Some.is ∙ c.read_part.ensures) c.if-r-c.true)
+returns-then-r-c c = sym (not-begun c.loop-r.invariant.entering (sym c.in-Some.is ∙ c.read_part.ensures) c.if-r-c.true)
 
 -- a part was read
 read : (c : Else-r-c)
     → Read c.args.arena.now c.args.used c.args.reports c.args.h c.head_of-d.result (after c.loop-r.c c.in-Some.r) (c.loop-r.n + (1 + c.in-Some.r.rest.postings))
-read c = part_counted c.loop-r.invariant.entering (sym c.in-Some.is ∙ c.read_part.ensures) c.if-r-c.false
+read c = block_read c.loop-r.invariant.entering (sym c.in-Some.is ∙ c.read_part.ensures) c.if-r-c.false
 
 pub overflow_add-n : goal.overflow_add-n
 overflow_add-n c = let w = (read (goal.at.overflow_add-n c).Else-r-c).counted in omega (arith, w.few, w.within)
@@ -50,7 +50,7 @@ returns-then-not-is_exhausted c =
 pub returns-then-c : goal.returns-then-c
 returns-then-c c =
     c.agrees.ensures
-    ∙ sym (tail_ended (read (goal.at.returns-then-c c).Else-r-c) (sym c.is_exhausted.ensures ∙ c.if-not-is_exhausted.false) c.if-c.true)
+    ∙ sym (tail-ended (read (goal.at.returns-then-c c).Else-r-c) (sym c.is_exhausted.ensures ∙ c.if-not-is_exhausted.false) c.if-c.true)
 
 pub returns-in_default-entered : goal.returns-in_default-entered
 returns-in_default-entered c =
