@@ -1,6 +1,6 @@
 -- The call: which refusal it meets, row by row, and what it leaves.
 -- Assumes nothing.
-use mathlib.Core.Path.{◌≡◌, refl, ap, ◌∙◌}
+use mathlib.Core.Path.{◌≡◌, refl, ◌∙◌}
 use mathlib.Core.Bool.{Bool, true, false}
 use mathlib.Core.List.{List, ◌∷◌}
 use Prim.Native.Nat.{ℕ, ◌≤◌, ◌<◌}
@@ -127,12 +127,6 @@ module _ (m : Memory) (f : List ℕ) where
   unfolding report_call
   call-refused n = rw (ne_eqb (call_refusal m f) 0 n)
 
-  -- so does one on a refused frame
-  pub call-frame-refused : 0 < report_refusal f → report_call m f ≡ refused_as (report_refusal f) m
-  call-frame-refused h =
-      let e = call-frame m f h in
-      call-refused (λ z. omega arith) ∙ ap (λ r. refused_as r m) e
-
   -- any other writes the lines
   pub call_writes : call_refusal m f ≡ 0 → report_call m f ≡ ended (next_number m.counters) (write_lines m (next_number m.counters) (report_lines f))
   unfolding report_call
@@ -180,12 +174,3 @@ Answers m f r a t =
 -- are those of the call that it came to
 pub answers : (m : Memory) (f : List ℕ) {x : Called} → report_call m f ≡ x → Answers m f (taken_of x) x.left.arena x.left.table
 answers m f e = rw e (refl, refl, refl)
-
--- what is handed back of a call: its answer and its counters
-pub taken-answer : (c : Called) → (taken_of c).answer ≡ c.answer
-unfolding taken_of
-taken-answer c = refl
-
-pub taken-counters : (c : Called) → (taken_of c).counters ≡ c.left.counters
-unfolding taken_of
-taken-counters c = refl

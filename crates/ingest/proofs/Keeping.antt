@@ -37,10 +37,6 @@ use Rattle.ingest.proofs.Writing.{HeldIn, one-keeps}
 abbrev pub kept_at : Memory → List ℕ → ℕ → ℕ
 kept_at m f n = kept_of m (line_at f (get_or (lines f) n 0))
 
--- which stands here
-pub kept_nth : (m : Memory) (f : List ℕ) (n : ℕ) {at : ℕ} → get_or (lines f) n 0 ≡ at → kept_at m f n ≡ kept_of m (line_at f at)
-kept_nth m f n e = ap (λ (x : ℕ). kept_of m (line_at f x)) e
-
 -- w is the line's folded term
 pub read_kept : (m : Memory) (f : List ℕ) (at : ℕ) {w : List ℕ} → w ≡ folded_at f at
     → first_hit (sought m.arena m.counters.used m.table w) (first_entry m.table (fnv1a w)) ≡ kept_of m (line_at f at)

@@ -33,11 +33,6 @@ module _ (m : Memory) (p : Needed) where
   unfolding plan_rows
   plan_damaged e = first_holds (10 if p.damaged) _ e
 
-  -- 11: more terms than the table may hold
-  pub plan_terms : p.damaged ≡ false → max_terms m.table < m.counters.terms + p.terms → first_of (plan_rows m p) ≡ 11
-  unfolding plan_rows first_of
-  plan_terms e h = rw (e, lt-ltb (max_terms m.table) (m.counters.terms + p.terms) h)
-
   -- the terms fit
   module _ (e : p.damaged ≡ false) (l : m.counters.terms + p.terms ≤ max_terms m.table) where
     -- 12: more blocks than are left

@@ -5,36 +5,34 @@ use mathlib.Core.List.{List, [], ◌∷◌, map}
 use Prim.Native.Nat.{ℕ, zero, suc, ◌+◌, ◌≤◌, ◌<◌}
 use native.Mathlib.Numerals.{add-one}
 use native.Mathlib.Omega.{arith}
-use lib.ListN.{length, get_or, take, drop, length-drop, length-map}
+use borrow.Author.Tests.{lt-ltb, le-ltb}
+use lib.ListN.{length, get_or, drop, length-drop, length-map}
 use denote.Ref.{Bor}
 use Rattle.std.proofs.Common.{Iter, Option, Some, None, subst}
-use Rattle.std.specs.Iterator.{Yields}
-use Rattle.std.specs.List.{zip, enumerate_from}
+use Rattle.std.specs.Iterator.{AlwaysYields, Yields}
+use Rattle.std.specs.List.{zip}
 use Rattle.std.specs.declared.iter.Zip.{Zip}
-use Rattle.std.specs.declared.iter.Enumerate.{Enumerate}
-use Rattle.std.specs.Iterator.Adapters.{zip_first, zip_second, enumerate_source, enumerate_count, enumerate_steps}
+use Rattle.std.specs.Iterator.Adapters.{zip_first, zip_second}
 use Rattle.std.specs.Slice.Iter.{iter_rest}
 use Rattle.std.proofs.iter.Yields.{fronts}
 use Rattle.std.proofs.lemmas.Iterator.{YieldsList, YieldsList-from_slice, YieldsList-from_zip, zips}
-use Rattle.std.proofs.lemmas.Iterator.Consumers.{YieldsList-from_enumerate, YieldsList-turn, YieldsList-end}
-use Rattle.ingest.specs.declared.Lines.{Lines}
-use lib.Seq.{take-append_seam}
+use Rattle.std.proofs.lemmas.Iterator.Consumers.{YieldsList-turn, YieldsList-end}
 use Rattle.std.proofs.lemmas.List.{get_or-map}
 use Rattle.std.proofs.lemmas.Slice.Zip.{length-zip}
 use Rattle.basics.proofs.Cases.{by-lt}
 use Rattle.basics.proofs.Parts.{rest_here, rest-next, get_or-inside}
 use Rattle.terms.specs.Terms.{fnv1a}
-use Rattle.frames.specs.Frames.{Line, count_bytes, first_line, past_field, Field, fields, lines, line_at, folded_at, report_lines, report_refusal}
-use Rattle.frames.specs.Read.{hashes_of, Read}
-use Rattle.frames.proofs.Fields.{field_term, fields_end, fields_more}
-use Rattle.frames.specs.declared.Cursor.{Cursor}
-use Rattle.frames.specs.declared.Cursors.{Cursors}
-use Rattle.frames.specs.Walk.{Goes, from_first}
-use Rattle.frames.proofs.Walk.{yields-fields}
-use Rattle.frames.proofs.Laws.{Sound, sound_field, sound-on, sound-lines}
+use Rattle.frames.specs.declared.Line.{Line}
+use Rattle.frames.specs.declared.Lines.{Lines}
+use Rattle.frames.specs.declared.LinesLeft.{LinesLeft}
+use Rattle.frames.specs.Frames.{Line as FrameLine, count_bytes, first_line, past_field, fields_up_to, fields, lines, line_at, folded_at, count_at, report_lines, report_refusal}
+use Rattle.frames.specs.Read.{hashes_of}
+use Rattle.frames.specs.Lines.{LineGoes}
+use Rattle.frames.proofs.Fields.{past_more, fields_end, fields_more}
+use Rattle.frames.proofs.Laws.{Sound, sound-on, sound-lines}
 
 -- the lines from the n-th on
-abbrev pub lines_from : List ℕ → ℕ → List Line
+abbrev pub lines_from : List ℕ → ℕ → List FrameLine
 lines_from f n = map (line_at f) (drop n (lines f))
 
 pub lines_whole : (f : List ℕ) → lines_from f 0 ≡ report_lines f
@@ -78,32 +76,93 @@ module _ {f : List ℕ} {n at : ℕ} (s : Stands f n at) (h : n < length (lines 
   pub stands_on : Stands f (n + 1) (past_field count_bytes f at)
   stands_on = record { rest = rest-next (lines f) n left_is; sound = sound-on s.sound inside }
 
-  pub stands_field : Field count_bytes f at
-  stands_field = sound_field s.sound inside
+-- ---- the lines that come
 
-  pub stands_term : Field 0 f at
-  stands_term = field_term count_bytes f at stands_field
+-- the folded term of a line, with its hash and its count
+abbrev item : Line → List ℕ × (ℕ × ℕ)
+item l = (l.name.now, (l.hash, l.count))
+
+abbrev item_at : List ℕ → ℕ → List ℕ × (ℕ × ℕ)
+item_at f at = (folded_at f at, (fnv1a (folded_at f at), count_at f at))
+
+-- of all lines
+abbrev items : List ℕ → List (List ℕ × (ℕ × ℕ))
+items f = map (item_at f) (lines f)
+
+walk : (k : ℕ) (s : LinesLeft) → length s.frame.now ≤ s.at + k → AlwaysYields LineGoes item s (map (item_at s.frame.now) (fields_up_to k count_bytes s.frame.now s.at))
+unfolding fields_up_to
+walk zero s h = λ x j g. omega (arith, g.here.starts)
+walk (suc k) s h =
+    by-lt s.at (length s.frame.now)
+    (λ l. rw (lt-ltb s.at (length s.frame.now) l) (
+      λ j w. omega (arith, w.0),
+      λ x j g.
+          let e : map (item_at j.frame.now) (fields_up_to k count_bytes j.frame.now j.at) ≡ map (item_at s.frame.now) (fields_up_to k count_bytes s.frame.now (past_field count_bytes s.frame.now s.at)) =
+          rw (g.frame, g.past) refl in (
+            rw (g.here.name, g.here.hash, g.here.count) refl,
+            subst (λ (ys : List (List ℕ × (ℕ × ℕ))). AlwaysYields LineGoes item j ys) e (walk k j (omega (arith, g.past, past_more count_bytes s.frame.now s.at, ap length g.frame))),
+          ),
+    ))
+    (λ l. rw (le-ltb s.at (length s.frame.now) l) (λ x j g. omega (arith, g.here.starts)))
+
+lines_yield : (f : List ℕ) (s : LinesLeft) → s.frame.now ≡ f → s.at ≡ first_line → YieldsList LineGoes item s (items f)
+unfolding fields
+lines_yield f s e q =
+    record {
+      runs = rw (← e)
+          (subst (λ (at : ℕ). AlwaysYields LineGoes item s (map (item_at s.frame.now) (fields_up_to (length s.frame.now) count_bytes s.frame.now at))) q (walk (length s.frame.now) s (omega arith)));
+    }
 
 -- the n-th line stands where the list of lines says
-pub stands_nth : (f : List ℕ) → report_refusal f ≡ 0 → (n : ℕ) → n < length (lines f) → Stands f n (get_or (lines f) n 0)
+stands_nth : (f : List ℕ) → report_refusal f ≡ 0 → (n : ℕ) → n < length (lines f) → Stands f n (get_or (lines f) n 0)
 stands_nth f z zero h = let s = stands-first f z in rw (stands_here s h) s
 stands_nth f z (suc n) h =
     let l : n < length (lines f) = omega arith in
     let s : Stands f (suc n) (past_field count_bytes f (get_or (lines f) n 0)) = rw add-one at (stands_on (stands_nth f z n l) l) in
     rw (stands_here s h) s
 
--- the hashes that reading a report left
-pub read_hashes : {f names hashes : List ℕ} {n : ℕ} → Read f names hashes → n ≡ length (lines f) → take n hashes ≡ hashes_of f (lines f)
-unfolding hashes_of
-read_hashes {f} {n = n} r e =
-    let hs = hashes_of f (lines f) in
-    let long : length hs ≡ n = length-map (lines f) (λ (i : ℕ). fnv1a (folded_at f i)) ∙ sym e in
-    rw (r.hashed.is, ← long) (take-append_seam hs r.hashed.rest)
+module _ (l : Lines) where
+  -- there is a hash for each line
+  pub hashes_long : length l.hashes.now ≡ length (lines l.frame.now)
+  unfolding hashes_of
+  hashes_long = omega (arith, simp length-map at (ap length l.hashed))
 
--- ---- the line in hand, when lines go along with their hashes
+  -- where the n-th line stands
+  abbrev pub offset : ℕ → ℕ
+  offset n = get_or (lines l.frame.now) n 0
+
+  -- x is the n-th line
+  pub record InHand (n : ℕ) (x : Line) : Type 0 where
+    pub counted : n < length (lines l.frame.now)
+    pub enough : n < length l.hashes.now
+    pub stands : Stands l.frame.now n (offset n)
+    pub name : x.name.now ≡ folded_at l.frame.now (offset n)
+    pub hash : x.hash ≡ fnv1a x.name.now
+    pub nth : get_or l.hashes.now n 0 ≡ x.hash
+    pub count : x.count ≡ count_at l.frame.now (offset n)
+
+  in_hand : (n : ℕ) {x : Line} → n < length (items l.frame.now) → item x ≡ get_or (items l.frame.now) n (item x) → InHand n x
+  unfolding hashes_of
+  in_hand n {x} h q =
+      let f = l.frame.now in
+      let counted : n < length (lines f) = omega (arith, length-map (lines f) (item_at f)) in
+      let here : item x ≡ item_at f (offset n) = q ∙ get_or-map (item_at f) (lines f) n 0 (item x) counted in
+      let name : x.name.now ≡ folded_at f (offset n) = ap (λ p. p.0) here in
+      let hash : x.hash ≡ fnv1a (folded_at f (offset n)) = ap (λ p. p.1.0) here in
+      record {
+        counted = counted;
+        enough = omega (arith, hashes_long);
+        stands = stands_nth f l.sound n counted;
+        name = name;
+        hash = rw name hash;
+        nth = ap (λ (hs : List ℕ). get_or hs n 0) l.hashed ∙ get_or-map (λ (i : ℕ). fnv1a (folded_at f i)) (lines f) n 0 0 counted ∙ sym hash;
+        count = ap (λ p. p.1.1) here;
+      }
+
+-- ---- going over the lines along with what is kept for each
 
 -- a pair of two lists that go together
-pub zip_nth : {A B : Type 0} (xs : List A) (ys : List B) (n : ℕ) {x : A} {y : B} → n < length (zip xs ys) → (x, y) ≡ get_or (zip xs ys) n (x, y)
+zip_nth : {A B : Type 0} (xs : List A) (ys : List B) (n : ℕ) {x : A} {y : B} → n < length (zip xs ys) → (x, y) ≡ get_or (zip xs ys) n (x, y)
     → (n < length xs) × (n < length ys) × (x ≡ get_or xs n x) × (y ≡ get_or ys n y)
 zip_nth [] ys n h e = absurd (omega arith)
 zip_nth (x ∷ xs) [] n h e = absurd (omega arith)
@@ -112,115 +171,48 @@ zip_nth (x ∷ xs) (y ∷ ys) (suc n) h e =
     let r = zip_nth xs ys n (omega arith) e in
     (omega (arith, r.0), omega (arith, r.1), r.2, r.3)
 
--- the n-th line is the one at this offset, and this is its hash
-pub record InHand (f hashes : List ℕ) (n at hash : ℕ) : Type 0 where
-  pub counted : n < length (lines f)
-  pub stands : Stands f n at
-  pub nth : get_or hashes n 0 ≡ hash
-  pub hashed : hash ≡ fnv1a (folded_at f at)
-
-module _ (l : Lines) where
-  -- there is a hash for each line
-  pub hashes_long : length l.hashes.now ≡ length (lines l.frame.now)
-  unfolding hashes_of
-  hashes_long = omega (arith, simp length-map at (ap length l.hashed))
-
-  in_hand : (n : ℕ) {at hash : ℕ} → n < length (zip (lines l.frame.now) l.hashes.now) → (at, hash) ≡ get_or (zip (lines l.frame.now) l.hashes.now) n (at, hash)
-      → InHand l.frame.now l.hashes.now n at hash
-  unfolding hashes_of
-  in_hand n {at} {hash} h q =
-      let f = l.frame.now in
-      let p = zip_nth (lines f) l.hashes.now n h q in
-      let here : at ≡ get_or (lines f) n 0 = p.2 ∙ get_or-inside (lines f) n at 0 p.0 in
-      record {
-        counted = p.0;
-        stands = rw here (stands_nth f l.sound n p.0);
-        nth = sym (p.3 ∙ get_or-inside l.hashes.now n hash 0 p.1);
-        hashed = p.3
-            ∙ ap (λ (hs : List ℕ). get_or hs n hash) l.hashed
-            ∙ get_or-map (λ (i : ℕ). fnv1a (folded_at f i)) (lines f) n 0 hash p.0
-            ∙ ap (λ (i : ℕ). fnv1a (folded_at f i)) (sym here);
-      }
-
--- ---- going over the lines along with their hashes, and with what is kept for each
-
-lines_yield : {s : Cursors} (frame : Bor (List ℕ)) → s ≡ from_first first_line count_bytes frame → YieldsList Goes (λ c. c.at) s (lines frame.now)
-lines_yield {s} frame e =
-    subst (λ (t : Cursors). YieldsList Goes (λ c. c.at) t (lines frame.now)) (sym e) (yields-fields (from_first first_line count_bytes frame))
-
-abbrev line_hash : Cursor × Bor ℕ → ℕ × ℕ
-line_hash p = (p.0.at, p.1.now)
-
-abbrev hashes_go : Zip Cursors (Iter ℕ) → Option (Cursor × Bor ℕ) → Zip Cursors (Iter ℕ) → Type 0
-hashes_go = zips Goes fronts
-
-abbrev entries_go : Zip (Zip Cursors (Iter ℕ)) (Iter ℕ) → Option ((Cursor × Bor ℕ) × Bor ℕ) → Zip (Zip Cursors (Iter ℕ)) (Iter ℕ) → Type 0
-entries_go = zips hashes_go fronts
+abbrev entries_go : Zip LinesLeft (Iter ℕ) → Option (Line × Bor ℕ) → Zip LinesLeft (Iter ℕ) → Type 0
+entries_go = zips LineGoes fronts
 
 -- all that comes from here on
-abbrev pub Along : Lines → List ℕ → Zip (Zip Cursors (Iter ℕ)) (Iter ℕ) → Type 0
-Along l kept s = YieldsList entries_go (λ p. (line_hash p.0, p.1.now)) s (zip (zip (lines l.frame.now) l.hashes.now) kept)
+abbrev pub Along : Lines → List ℕ → Zip LinesLeft (Iter ℕ) → Type 0
+Along l kept s = YieldsList entries_go (λ p. (item p.0, p.1.now)) s (zip (items l.frame.now) kept)
 
 module _ (l : Lines) (kept : List ℕ) where
-  pub along_all : {c : Cursors} {h : Zip Cursors (Iter ℕ)} {z s : Zip (Zip Cursors (Iter ℕ)) (Iter ℕ)} → c ≡ from_first first_line count_bytes l.frame
-      → zip_first h ≡ c → iter_rest (zip_second h) ≡ l.hashes.now → zip_first z ≡ h → iter_rest (zip_second z) ≡ kept → s ≡ z → Along l kept s
-  along_all {s = s} o a b d e i =
-      YieldsList-from_zip {s = s}
-      (YieldsList-from_zip {s = zip_first s} (lines_yield l.frame (rw (i, d, a) o)) (YieldsList-from_slice l.hashes.now (rw (i, d) b)))
-      (YieldsList-from_slice kept (rw i e))
+  pub along_all : {c : LinesLeft} {z s : Zip LinesLeft (Iter ℕ)} → (c.frame.now ≡ l.frame.now) × (c.at ≡ first_line)
+      → zip_first z ≡ c → iter_rest (zip_second z) ≡ kept → s ≡ z → Along l kept s
+  along_all {s = s} o a b i =
+      YieldsList-from_zip {s = s} (lines_yield l.frame.now (zip_first s) (rw (i, a) o.0) (rw (i, a) o.1)) (YieldsList-from_slice kept (rw i b))
 
-  module _ {s : Zip (Zip Cursors (Iter ℕ)) (Iter ℕ)} (w : Along l kept s) (xs : List ((Cursor × Bor ℕ) × Bor ℕ)) (t : Zip (Zip Cursors (Iter ℕ)) (Iter ℕ))
-      (y : Yields entries_go s xs t) (r : Option ((Cursor × Bor ℕ) × Bor ℕ)) (u : Zip (Zip Cursors (Iter ℕ)) (Iter ℕ)) (g : entries_go t r u) where
-    -- a turn: a line with its hash, and what is kept for it
-    pub entry_turn : {c : Cursor} {h x : Bor ℕ} → r ≡ Some ((c, h), x) → InHand l.frame.now l.hashes.now (length xs) c.at h.now × (x.now ≡ get_or kept (length xs) 0)
-    entry_turn {c} {h} {x} i =
-        let turn = YieldsList-turn w xs t y r u ((c, h), x) i g in
-        let both = zip_nth (zip (lines l.frame.now) l.hashes.now) kept (length xs) turn.0 turn.1 in
-        (in_hand l (length xs) both.0 both.2, both.3 ∙ get_or-inside kept (length xs) x.now 0 both.1)
+  module _ {s : Zip LinesLeft (Iter ℕ)} (w : Along l kept s) (xs : List (Line × Bor ℕ)) (t : Zip LinesLeft (Iter ℕ)) (y : Yields entries_go s xs t)
+      (r : Option (Line × Bor ℕ)) (u : Zip LinesLeft (Iter ℕ)) (g : entries_go t r u) where
+    -- a turn: a line, and what is kept for it
+    pub entry_turn : {x : Line} {k : Bor ℕ} → r ≡ Some (x, k) → InHand l (length xs) x × (k.now ≡ get_or kept (length xs) 0)
+    entry_turn {x} {k} i =
+        let turn = YieldsList-turn w xs t y r u (x, k) i g in
+        let both = zip_nth (items l.frame.now) kept (length xs) turn.0 turn.1 in
+        (in_hand l (length xs) both.0 both.2, both.3 ∙ get_or-inside kept (length xs) k.now 0 both.1)
 
     -- the end: there is no other line, where something is kept for each
     pub entries_end : r ≡ None → length (lines l.frame.now) ≤ length kept → length (lines l.frame.now) ≤ length xs
     entries_end i long =
         let end = YieldsList-end w xs t y r u i g in
-        omega (arith, end.1, length-zip (zip (lines l.frame.now) l.hashes.now) kept, length-zip (lines l.frame.now) l.hashes.now, hashes_long l)
+        omega (arith, end.1, length-zip (items l.frame.now) kept, length-map (lines l.frame.now) (item_at l.frame.now))
 
--- ---- the same counted, without what is kept
+-- ---- going over the lines alone
 
-enumerate_nth : {A : Type 0} (xs : List A) (a k : ℕ) {n : ℕ} {x : A} → k < length (enumerate_from a xs) → (n, x) ≡ get_or (enumerate_from a xs) k (n, x)
-    → (k < length xs) × (n ≡ a + k) × (x ≡ get_or xs k x)
-enumerate_nth [] a k h e = absurd (omega arith)
-enumerate_nth (x ∷ xs) a zero h e = (omega arith, omega (arith, ap (λ p. p.0) e), ap (λ p. p.1) e)
-enumerate_nth (x ∷ xs) a (suc k) h e =
-    let r = enumerate_nth xs (a + 1) k (omega arith) e in
-    (omega (arith, r.0), omega (arith, r.1), r.2)
-
-length-enumerate : {A : Type 0} (xs : List A) (a : ℕ) → length (enumerate_from a xs) ≡ length xs
-length-enumerate [] a = refl
-length-enumerate (x ∷ xs) a = ap suc (length-enumerate xs (a + 1))
-
-abbrev counted_go : Enumerate (Zip Cursors (Iter ℕ)) → Option (ℕ × (Cursor × Bor ℕ)) → Enumerate (Zip Cursors (Iter ℕ)) → Type 0
-counted_go = enumerate_steps hashes_go
-
-abbrev pub Counted : Lines → Enumerate (Zip Cursors (Iter ℕ)) → Type 0
-Counted l s = YieldsList counted_go (λ p. (p.0, line_hash p.1)) s (enumerate_from 0 (zip (lines l.frame.now) l.hashes.now))
+abbrev pub All : Lines → LinesLeft → Type 0
+All l s = YieldsList LineGoes item s (items l.frame.now)
 
 module _ (l : Lines) where
-  pub counted_all : {c : Cursors} {h : Zip Cursors (Iter ℕ)} {z s : Enumerate (Zip Cursors (Iter ℕ))} → c ≡ from_first first_line count_bytes l.frame
-      → zip_first h ≡ c → iter_rest (zip_second h) ≡ l.hashes.now → enumerate_source z ≡ h → enumerate_count z ≡ 0 → s ≡ z → Counted l s
-  counted_all {s = s} o a b d n i =
-      YieldsList-from_enumerate {s = s}
-      (YieldsList-from_zip {s = enumerate_source s} (lines_yield l.frame (rw (i, d, a) o)) (YieldsList-from_slice l.hashes.now (rw (i, d) b)))
-      (rw i n)
+  pub all_left : {s : LinesLeft} → (s.frame.now ≡ l.frame.now) × (s.at ≡ first_line) → All l s
+  all_left {s} o = lines_yield l.frame.now s o.0 o.1
 
-  module _ {s : Enumerate (Zip Cursors (Iter ℕ))} (w : Counted l s) (xs : List (ℕ × (Cursor × Bor ℕ))) (t : Enumerate (Zip Cursors (Iter ℕ)))
-      (y : Yields counted_go s xs t) (r : Option (ℕ × (Cursor × Bor ℕ))) (u : Enumerate (Zip Cursors (Iter ℕ))) (g : counted_go t r u) where
-    pub counted_turn : {n : ℕ} {c : Cursor} {h : Bor ℕ} → r ≡ Some (n, (c, h)) → InHand l.frame.now l.hashes.now (length xs) c.at h.now × (n ≡ length xs)
-    counted_turn {n} {c} {h} i =
-        let turn = YieldsList-turn w xs t y r u (n, (c, h)) i g in
-        let both = enumerate_nth (zip (lines l.frame.now) l.hashes.now) 0 (length xs) turn.0 turn.1 in
-        (in_hand l (length xs) both.0 both.2, omega (arith, both.1))
+  module _ {s : LinesLeft} (w : All l s) (xs : List Line) (t : LinesLeft) (y : Yields LineGoes s xs t) (r : Option Line) (u : LinesLeft) (g : LineGoes t r u) where
+    pub line_turn : {n : ℕ} {x : Line} → n ≡ length xs → r ≡ Some x → InHand l n x
+    line_turn {n} {x} e i = let turn = YieldsList-turn w xs t y r u x i g in rw e (in_hand l (length xs) turn.0 turn.1)
 
-    pub counted_end : r ≡ None → length xs ≡ length (lines l.frame.now)
-    counted_end i =
+    pub lines_end : r ≡ None → length xs ≡ length (lines l.frame.now)
+    lines_end i =
         let end = YieldsList-end w xs t y r u i g in
-        omega (arith, end.1, length-enumerate (zip (lines l.frame.now) l.hashes.now) 0, length-zip (lines l.frame.now) l.hashes.now, hashes_long l)
+        omega (arith, end.1, length-map (lines l.frame.now) (item_at l.frame.now))

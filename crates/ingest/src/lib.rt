@@ -3,8 +3,8 @@
 
 ghost use Rattle.std.specs.Prelude.{◌≡◌, List, ℕ, Ok, OnOk, OnErr, IfOk, ◌+◌, ◌-◌, ◌≤◌, ◌<◌, length, get_or};
 ghost use Rattle.terms.specs.Terms.{max_term, fnv1a};
-ghost use Rattle.frames.specs.Frames.{max_body, lines, report_refusal, report_lines};
-ghost use Rattle.frames.specs.Read.{Folds, hashes_of, max_lines};
+ghost use Rattle.frames.specs.Frames.{max_body, lines, report_lines};
+ghost use Rattle.frames.specs.Read.{max_lines};
 ghost use Rattle.frames.specs.Refusals.{first_of};
 ghost use Rattle.blocks.specs.Fields.{max_word, place};
 ghost use Rattle.lookup.specs.Lookup.{slots, search};
@@ -17,7 +17,7 @@ ghost use Rattle.ingest.specs.declared.Place.TheVariants.{New};
 
 use blocks::Head;
 use counters::Counters;
-use frames::Cursors;
+use frames::Lines;
 use lookup::Found;
 use refusals::Refusal;
 
@@ -55,18 +55,6 @@ pub struct Plan {
 #[derive(Clone, Copy)]
 pub struct Stopped {
     pub left: Counters,
-}
-
-// The lines of a sound report: its frame, and what reading it left, the bytes folded and the hashes of the lines.
-#[derive(Clone, Copy)]
-struct Lines<'a> {
-    frame: &'a [u8],
-    names: &'a [u8],
-    hashes: &'a [u32],
-    ghost sound: { report_refusal frame.now ≡ 0 },
-    ghost folded: { Folds frame.now names.now },
-    ghost hashed: { hashes.now ≡ hashes_of frame.now (lines frame.now) },
-    ghost few: { length (lines frame.now) ≤ max_lines },
 }
 
 // A line at its turn: its folded term with the hash of that, its count, and the entry that is kept for it, 0 for none.
@@ -189,12 +177,11 @@ fn plan_lines(arena: Arena, table: &[u32], lines: Lines, kept: &mut [u32]) -> Re
         terms: 0,
         blocks: 0,
     };
-    for (n, (c, hash)) in Cursors::lines(lines.frame).zip(lines.hashes).enumerate() {
+    for (n, line) in lines.iter().enumerate() {
         let entry = kept[n];
-        let name = c.name(lines.frame, lines.names);
-        let found = lookup::find_from(bytes, used, table, name, *hash, entry, lengths[n]);
+        let found = lookup::find_from(bytes, used, table, line.name, line.hash, entry, lengths[n]);
         kept[n] = lookup::first_hit(found, entry);
-        plan = plan.with(arena.place_found(found?, c.count(lines.frame))?);
+        plan = plan.with(arena.place_found(found?, line.count)?);
     }
     Ok(plan)
 }
@@ -348,14 +335,14 @@ fn write_lines(
 {
     let mut marks = [false; 1024];
     let mut left = k;
-    for ((c, hash), kept) in Cursors::lines(lines.frame).zip(lines.hashes).zip(kept) {
-        let line = Turn {
-            name: c.name(lines.frame, lines.names),
-            hash: *hash,
-            count: c.count(lines.frame),
+    for (line, kept) in lines.iter().zip(kept) {
+        let turn = Turn {
+            name: line.name,
+            hash: line.hash,
+            count: line.count,
             kept: *kept,
         };
-        left = write_line(arena, table, left, line, &mut marks)?;
+        left = write_line(arena, table, left, turn, &mut marks)?;
     }
     Ok(left)
 }
@@ -399,12 +386,7 @@ fn judge_and_write(
     let mut names = [0u8; 4100];
     let mut hashes = [0u32; 820];
     let mut kept = [0u32; 820];
-    let count = frames::read_report(frame, &mut names, &mut hashes)?;
-    let lines = Lines {
-        frame,
-        names: &names,
-        hashes: &hashes[..count],
-    };
+    let lines = Lines::read(frame, &mut names, &mut hashes)?;
     judge_report(arena, table, k, lines, &mut kept)?;
     Ok(write_lines(arena, table, k, lines, &kept))
 }

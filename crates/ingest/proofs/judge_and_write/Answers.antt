@@ -1,33 +1,23 @@
--- A refused frame decides; else the lines are read, and a call that is not refused then leaves room to write them.
+-- A refused frame decides; else a call that is not refused leaves room to write the lines.
 use mathlib.Core.Path.{sym, ◌∙◌}
 use native.Mathlib.Omega.{arith}
 use Rattle.std.proofs.lemmas.Result.{err_from_is_err_and}
 use Rattle.frames.proofs.Laws.{report-refused}
 use Rattle.counters.specs.Counters.{memory}
-use Rattle.ingest.proofs.Standing.{read_hashes}
 use Rattle.ingest.proofs.Writing.{held_right}
 use Rattle.ingest.proofs.Calls.{judged, call-frame}
 use Rattle.ingest.proofs.judge_and_write.Goals as goal
 
-pub returns-in_err-count-clause-refused : goal.returns-in_err-count-clause-refused
-returns-in_err-count-clause-refused c =
+pub returns-in_err-lines-clause-refused : goal.returns-in_err-lines-clause-refused
+returns-in_err-lines-clause-refused c =
     let m = memory c.args.arena.now c.args.table.now c.args.k in
     let p = err_from_is_err_and c.from_residual.result c.from_residual.ensures.1 in
-    let r = report-refused c.args.frame.now _ c.in_err-count.ensures.refused in
-    rw (p.1, p.2) (c.in_err-count.ensures.refused ∙ sym (call-frame m c.args.frame.now (omega (arith, r.0, r.1))))
-
-pub invariant_of-lines : goal.invariant_of-lines
-invariant_of-lines c =
-    let read = c.in_ok-count.ensures.read in
-    record {
-      sound = sym c.in_ok-count.ensures.refused;
-      folded = read.folds;
-      hashed = read_hashes read c.in_ok-count.ensures.count;
-      few = read.few;
-    }
+    let r = report-refused c.args.frame.now _ c.in_err-lines.ensures.refused in
+    rw (p.1, p.2) (c.in_err-lines.ensures.refused ∙ sym (call-frame m c.args.frame.now (omega (arith, r.0, r.1))))
 
 pub write_lines-requires : goal.write_lines-requires
 write_lines-requires c =
     let m = memory c.args.arena.now c.args.table.now c.args.k in
-    let j = judged m c.args.frame.now (sym c.in_ok-judge_report.ensures.refused) in
+    let f = c.in_ok-lines.lines.frame.now in
+    let j = judged m f (sym c.in_ok-judge_report.ensures.refused) in
     (held_right m j.counters j.numbered (omega arith), omega arith, c.in_ok-judge_report.ensures.kept)

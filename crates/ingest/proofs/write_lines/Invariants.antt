@@ -6,9 +6,9 @@ use Rattle.ingest.proofs.Writing.{Wrote}
 use Rattle.ingest.proofs.Keeping.{Lasts}
 use Rattle.ingest.proofs.write_lines.Given as goal
 
-abbrev pub invariant-loop-c : goal.invariant-loop-c
-invariant-loop-c l = record {
-  along : Along l.lines l.kept l.initial.c-iterator;
+abbrev pub invariant-loop-line : goal.invariant-loop-line
+invariant-loop-line l = record {
+  along : Along l.lines l.kept l.initial.line-iterator;
   wrote : Wrote (memory l.fn.arena l.fn.table l.fn.k) l.lines.frame.now (memory l.arena l.table l.left) (length l.yielded);
   lasts : Lasts (memory l.fn.arena l.fn.table l.fn.k) (memory l.arena l.table l.left) l.marks;
 }
