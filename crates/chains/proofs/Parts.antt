@@ -19,9 +19,9 @@ use Rattle.postings.proofs.Laws.{Held, decoded_held, decoded-nil, decoded_null}
 use Rattle.blocks.specs.Fields.{block_size, link_size, place, link_of, part_of}
 use Rattle.sums.proofs.Adding.{bounded_on}
 use Rattle.chains.specs.declared.Cursor.{Cursor}
-use Rattle.chains.specs.declared.Passed.{Passed}
 use Rattle.chains.specs.Chains.{stepped, damage, part_end, exhausted, given, read_at, entered, next_block, step_at, Follows}
-use Rattle.chains.specs.Parts.{behind, passed, moved_to, passed_to, InPart, Known}
+use Rattle.sums.specs.Adding.{further}
+use Rattle.chains.specs.Parts.{Passed, passed, moved_to, passed_to, InPart, Known}
 use Rattle.chains.proofs.Steps.{part_end_le, part_end_ge, not-exhausted, part_within, given-none, given-over, given-at, given_is, read_gave, next-none, next_out, next-at, step_empty, step_end, step_next, step_here}
 use Rattle.chains.proofs.Laws.{step_follows}
 use Rattle.chains.proofs.Passing.{Goes, Stopped, at_end, arrived, no_posting, over, pass-keeps}
@@ -249,7 +249,7 @@ module _ {a : List ℕ} {reports : ℕ} {c : Cursor} (w : InPart a reports c) (t
   abbrev Stands : Passed → Type 0
   Stands p = Within a reports to c p.postings (moved_to c p.at p.number)
 
-  stands_on : (p : Passed) (d : Decoded) → Goes part reports to p d → Stands p → Stands (behind p d.gap d.length)
+  stands_on : (p : Passed) (d : Decoded) → Goes part reports to p d → Stands p → Stands (further p d.gap d.length)
   stands_on p d v s =
       let h : p.at < e = omega (arith, v.before_end, all) in
       let f : decoded (part_of a c.block p.at e) ≡ Some d = sym (ap decoded (part_drop a c.block e p.at)) ∙ v.found in

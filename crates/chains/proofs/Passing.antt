@@ -16,8 +16,8 @@ use Rattle.postings.specs.declared.Decoded.{Decoded}
 use Rattle.postings.proofs.Laws.{decoded-within}
 use Rattle.sums.specs.Adding.{Bounded}
 use Rattle.sums.proofs.Adding.{bounded_here, bounded_on}
-use Rattle.chains.specs.declared.Passed.{Passed}
-use Rattle.chains.specs.Parts.{behind, onward, pass_from, passed, opened, part_read}
+use Rattle.sums.specs.Adding.{further}
+use Rattle.chains.specs.Parts.{Passed, onward, pass_from, passed, opened, part_read}
 
 cond_same : (x : Bool) (p : Passed) → cond x p p ≡ p
 cond_same true p = refl
@@ -67,7 +67,7 @@ module _ (part : List ℕ) (reports to : ℕ) where
       omega (arith, w.before_end, d.0, simp length-drop at d.1)
 
   pub pass_on : (k : ℕ) {p : Passed} {d : Decoded} → Goes part reports to p d
-      → pass_from (suc k) part reports to p ≡ pass_from k part reports to (behind p d.gap d.length)
+      → pass_from (suc k) part reports to p ≡ pass_from k part reports to (further p d.gap d.length)
   unfolding pass_from onward
   pass_on k {p} {d} w =
       rw (lt-ltb p.at (length part) w.before_end, lt-ltb p.number to w.below, w.found, le-leb (p.number + d.gap) reports w.in_reports_lem)
@@ -83,14 +83,14 @@ module _ (part : List ℕ) (reports to : ℕ) where
       rw (e, lt-leb (p.number + d.gap) reports h) (cond_same (ltb p.at (length part) && ltb p.number to) p)
 
   -- what holds of p and is kept by each posting passed holds behind all of them
-  pub pass-keeps : (P : Passed → Type 0) → ((p : Passed) (d : Decoded) → Goes part reports to p d → P p → P (behind p d.gap d.length)) → (k : ℕ) (p : Passed) → P p
+  pub pass-keeps : (P : Passed → Type 0) → ((p : Passed) (d : Decoded) → Goes part reports to p d → P p → P (further p d.gap d.length)) → (k : ℕ) (p : Passed) → P p
       → P (pass_from k part reports to p)
   unfolding pass_from
   pass-keeps P f zero p h = h
   pass-keeps P f (suc k) p h = go (goes_or_stops p) (λ q. pass-keeps P f k q)
     where
       go : Turn p → ((q : Passed) → P q → P (pass_from k part reports to q)) → P (pass_from (suc k) part reports to p)
-      go (inl (d, w)) ih = rw (pass_on k w) (ih (behind p d.gap d.length) (f p d w h))
+      go (inl (d, w)) ih = rw (pass_on k w) (ih (further p d.gap d.length) (f p d w h))
       go (inr s) ih = rw (pass-stopped (suc k) s) h
 
   -- where it stops none can be passed: it does not stop early
@@ -100,17 +100,17 @@ module _ (part : List ℕ) (reports to : ℕ) where
   pass-stops (suc k) p h = go (goes_or_stops p) (λ q. pass-stops k q)
     where
       go : Turn p → ((q : Passed) → length part ≤ q.at + k → Stopped part reports to (pass_from k part reports to q)) → Stopped part reports to (pass_from (suc k) part reports to p)
-      go (inl (d, w)) ih = rw (pass_on k w) (ih (behind p d.gap d.length) (omega (arith, (goes_within w).0)))
+      go (inl (d, w)) ih = rw (pass_on k w) (ih (further p d.gap d.length) (omega (arith, (goes_within w).0)))
       go (inr s) ih = rw (pass-stopped (suc k) s) s
 
   pub going_start : (p : Passed) → Going part reports to p p
   going_start p = record { k = length part; enough = omega arith; is = refl }
 
-  pub going_on : {p₀ p : Passed} {d : Decoded} → Going part reports to p₀ p → Goes part reports to p d → Going part reports to p₀ (behind p d.gap d.length)
+  pub going_on : {p₀ p : Passed} {d : Decoded} → Going part reports to p₀ p → Goes part reports to p d → Going part reports to p₀ (further p d.gap d.length)
   going_on {p₀} {p} {d} v w = go v.k v.enough v.is
     where
       go : (k : ℕ) → length part ≤ p.at + k → pass_from (length part) part reports to p₀ ≡ pass_from k part reports to p
-          → Going part reports to p₀ (behind p d.gap d.length)
+          → Going part reports to p₀ (further p d.gap d.length)
       go zero h e = absurd (omega (arith, w.before_end))
       go (suc k) h e = record { k = k; enough = omega (arith, (goes_within w).0); is = e ∙ pass_on k w }
 
@@ -143,7 +143,7 @@ module _ (part : List ℕ) (reports more to : ℕ) where
           let c = bounded_on d w.before_end w.found in
           let v : Goes part more to p m
           = record { before_end = w.before_end; below = w.below; found = w.found; in_reports_lem = bounded_here c } in
-          pass_on part reports to k w ∙ ih (behind p m.gap m.length) (bounded_on b w.before_end w.found) c ∙ sym (pass_on part more to k v)
+          pass_on part reports to k w ∙ ih (further p m.gap m.length) (bounded_on b w.before_end w.found) c ∙ sym (pass_on part more to k v)
       go (inr s) ih = pass-stopped part reports to (suc k) s ∙ sym (pass-stopped part more to (suc k) (stays s))
 
   pub passed_known : (at number : ℕ) → Bounded part reports at number → Bounded part more at number

@@ -2,22 +2,22 @@
 use Rattle.std.specs.Prelude.{ℕ, zero, suc, ◌+◌, ◌≤◌, ◌<◌, List, Option, Some, None, cond, ◌&&◌, ltb, leb, length, drop}
 use Rattle.postings.specs.Coding.{decoded}
 use Rattle.postings.specs.declared.Decoded.{Decoded}
-use Rattle.sums.specs.Adding.{Bounded}
+use Rattle.sums.specs.declared.Sum.{Sum}
+use Rattle.sums.specs.Adding.{sum_of, further, Bounded}
 use Rattle.blocks.specs.Fields.{block_size, place, part_of}
 use Rattle.chains.specs.declared.Cursor.{Cursor}
-use Rattle.chains.specs.declared.Passed.{Passed}
 use Rattle.chains.specs.declared.PartRead.{PartRead}
 use Rattle.chains.specs.Chains.{part_end}
 
 -- ---- over the bytes of a part
 
--- behind a posting of l bytes whose gap is g
-abbrev pub behind : Passed → ℕ → ℕ → Passed
-behind p g l = record { at = p.at + l; number = p.number + g; postings = p.postings + 1 }
+-- where reading on in a part stopped
+abbrev pub Passed : Type 0
+Passed = Sum ℕ
 
 -- a posting whose number is at most reports is passed, and what is behind it too; no other is
 unfoldable pub onward : (Passed → Passed) → ℕ → Passed → Option Decoded → Passed
-onward rest reports p (Some d) = cond (leb (p.number + d.gap) reports) (rest (behind p d.gap d.length)) p
+onward rest reports p (Some d) = cond (leb (p.number + d.gap) reports) (rest (further p d.gap d.length)) p
 onward rest reports p None = p
 
 -- reading on while numbers are below `to`: to the part's end, to a number at or past `to`, or to where no posting stands that can be passed. At
@@ -29,7 +29,7 @@ pass_from (suc fuel) part reports to p =
 
 -- reading on from offset `at`, behind the posting of that number. A posting takes at least one byte, so a part has no more postings than bytes
 unfoldable pub passed : List ℕ → ℕ → ℕ → ℕ → ℕ → Passed
-passed part reports at number to = pass_from (length part) part reports to (record { at = at; number = number; postings = 0 })
+passed part reports at number to = pass_from (length part) part reports to (sum_of at number)
 
 -- a whole part: its first posting, whose gap counts from `base`, and all behind it. None where no posting stands there whose number is at most reports
 unfoldable pub opened : List ℕ → ℕ → ℕ → ℕ → Option Decoded → Option PartRead

@@ -9,6 +9,7 @@ ghost use Rattle.chains.specs.Parts.{passed, moved_to, passed_to, InPart, Known,
 
 use blocks::Head;
 use refusals::Refusal;
+use sums::Sum;
 
 // A place in a chain: the block and the offset in it, the last number read, the block's first number (0 before its first posting), how many more
 // blocks there can be; and from the head, the tail block and the write offset there.
@@ -139,12 +140,7 @@ pub fn advance(arena: &[u8], used: u32, reports: u32, c: Cursor) -> Result<Optio
 // ---- several steps within a block's part
 
 // Where reading on in a part stopped: the offset and the number behind the last posting passed, and how many were passed.
-#[derive(Clone, Copy)]
-pub struct Passed {
-    pub at: usize,
-    pub number: u32,
-    pub postings: u32,
-}
+pub type Passed = Sum<u32>;
 
 // Reads on in a block's part while numbers are below `to`: to the part's end, or to where no sound posting stands. One loop over plain numbers,
 // without a cursor for each posting. Where no number of the part is over reports, as in a chain that was read whole before, none is judged again.

@@ -17,12 +17,12 @@ use Rattle.postings.proofs.Laws.{decoded_held, decoded-within}
 use Rattle.sums.specs.declared.Sum.{Sum}
 use Rattle.sums.specs.Adding.{sum_of, further, add_one, add_from, added_to, Bounded}
 
-cond_same : (x : Bool) (p : Sum) → cond x p p ≡ p
+cond_same : (x : Bool) (p : Sum ℕ) → cond x p p ≡ p
 cond_same true p = refl
 cond_same false p = refl
 
 -- a posting starts before the offset to stop at
-pub record Adds (part : List ℕ) (stop : ℕ) (p : Sum) : Type 0 where
+pub record Adds (part : List ℕ) (stop : ℕ) (p : Sum ℕ) : Type 0 where
   pub g : ℕ
   pub f : ℕ
   pub l : ℕ
@@ -30,12 +30,12 @@ pub record Adds (part : List ℕ) (stop : ℕ) (p : Sum) : Type 0 where
   pub found : decoded (drop p.at part) ≡ posting g f l
 
 -- none does
-pub data Ends (part : List ℕ) (stop : ℕ) (p : Sum) : Type 0 where
+pub data Ends (part : List ℕ) (stop : ℕ) (p : Sum ℕ) : Type 0 where
   at_stop : stop ≤ p.at → Ends part stop p
   no_posting : decoded (drop p.at part) ≡ None → Ends part stop p
 
 -- a loop on its way: from p on it adds up to what was to be added up from p₀ on, and k more postings are enough
-pub record Adding (part : List ℕ) (stop : ℕ) (p₀ p : Sum) : Type 0 where
+pub record Adding (part : List ℕ) (stop : ℕ) (p₀ p : Sum ℕ) : Type 0 where
   pub k : ℕ
   pub enough : stop ≤ p.at + k
   pub is : add_from (length part) part stop p₀ ≡ add_from k part stop p
@@ -53,43 +53,43 @@ sized part at d h e =
     record { gap_in = omega arith; byte = w.0; within = omega (arith, simp length-drop at w.1) }
 
 module _ (part : List ℕ) (stop : ℕ) where
-  pub adds-or-ends : (p : Sum) → Adds part stop p ⊎ Ends part stop p
+  pub adds-or-ends : (p : Sum ℕ) → Adds part stop p ⊎ Ends part stop p
   adds-or-ends p = by-lt p.at stop (λ h. go (decoded (drop p.at part)) refl h) (λ h. inr (at_stop h))
     where
       go : (x : Option Decoded) → decoded (drop p.at part) ≡ x → p.at < stop → Adds part stop p ⊎ Ends part stop p
       go None e h = inr (no_posting e)
       go (Some d) e h = inl (record { g = d.gap; f = d.count; l = d.length; before_stop = h; found = e })
 
-  pub add-on : (k : ℕ) {p : Sum} (w : Adds part stop p) → add_from (suc k) part stop p ≡ add_from k part stop (further p w.g w.l)
+  pub add-on : (k : ℕ) {p : Sum ℕ} (w : Adds part stop p) → add_from (suc k) part stop p ≡ add_from k part stop (further p w.g w.l)
   unfolding add_from add_one
   add-on k {p} w = rw (lt-ltb p.at stop w.before_stop, w.found)
 
-  pub add-ends : (k : ℕ) {p : Sum} → Ends part stop p → add_from k part stop p ≡ p
+  pub add-ends : (k : ℕ) {p : Sum ℕ} → Ends part stop p → add_from k part stop p ≡ p
   unfolding add_from add_one
   add-ends zero s = refl
   add-ends (suc k) {p} (at_stop h) = rw (le-ltb p.at stop h)
   add-ends (suc k) {p} (no_posting e) = rw e (cond_same (ltb p.at stop) p)
 
-  pub add_none : (p : Sum) → add_from zero part stop p ≡ p
+  pub add_none : (p : Sum ℕ) → add_from zero part stop p ≡ p
   unfolding add_from
   add_none p = refl
 
-  pub added_is : (p : Sum) → added_to part stop p ≡ add_from (length part) part stop p
+  pub added_is : (p : Sum ℕ) → added_to part stop p ≡ add_from (length part) part stop p
   unfolding added_to
   added_is p = refl
 
   -- a posting takes at least one byte
-  pub adds_byte : {p : Sum} (w : Adds part stop p) → 0 < w.l
+  pub adds_byte : {p : Sum ℕ} (w : Adds part stop p) → 0 < w.l
   adds_byte {p} w = (decoded-within (drop p.at part) w.found).0
 
   -- how many postings are allowed does not matter where they are enough
-  pub add_enough : (k j : ℕ) (p : Sum) → stop ≤ p.at + k → stop ≤ p.at + j → add_from k part stop p ≡ add_from j part stop p
+  pub add_enough : (k j : ℕ) (p : Sum ℕ) → stop ≤ p.at + k → stop ≤ p.at + j → add_from k part stop p ≡ add_from j part stop p
   unfolding add_from
   add_enough zero j p h i = sym (add-ends j (at_stop (omega arith)))
   add_enough (suc k) j p h i = go (adds-or-ends p) j i (λ j q. add_enough k j q)
     where
       go : Adds part stop p ⊎ Ends part stop p → (j : ℕ) → stop ≤ p.at + j
-          → ((j : ℕ) (q : Sum) → stop ≤ q.at + k → stop ≤ q.at + j → add_from k part stop q ≡ add_from j part stop q)
+          → ((j : ℕ) (q : Sum ℕ) → stop ≤ q.at + k → stop ≤ q.at + j → add_from k part stop q ≡ add_from j part stop q)
           → add_from (suc k) part stop p ≡ add_from j part stop p
       go (inr e) j i ih = add-ends (suc k) e ∙ sym (add-ends j e)
       go (inl w) zero i ih = absurd (omega (arith, w.before_stop))
@@ -97,10 +97,10 @@ module _ (part : List ℕ) (stop : ℕ) where
           let l = adds_byte w in
           add-on k w ∙ ih j (further p w.g w.l) (omega arith) (omega arith) ∙ sym (add-on j w)
 
-  pub adding_start : stop ≤ length part → (p : Sum) → Adding part stop p p
+  pub adding_start : stop ≤ length part → (p : Sum ℕ) → Adding part stop p p
   adding_start h p = record { k = length part; enough = omega arith; is = refl }
 
-  pub adding_on : {p₀ p : Sum} → Adding part stop p₀ p → (w : Adds part stop p) → Adding part stop p₀ (further p w.g w.l)
+  pub adding_on : {p₀ p : Sum ℕ} → Adding part stop p₀ p → (w : Adds part stop p) → Adding part stop p₀ (further p w.g w.l)
   adding_on {p₀} {p} v w = go v.k v.enough v.is
     where
       go : (k : ℕ) → stop ≤ p.at + k → add_from (length part) part stop p₀ ≡ add_from k part stop p → Adding part stop p₀ (further p w.g w.l)
@@ -108,28 +108,28 @@ module _ (part : List ℕ) (stop : ℕ) where
       go (suc k) h e = record { k = k; enough = omega (arith, adds_byte w); is = e ∙ add-on k w }
 
   -- the same where the posting is given as it was decoded
-  pub adding_more : {p₀ p : Sum} → Adding part stop p₀ p → p.at < stop → {d : Decoded}
+  pub adding_more : {p₀ p : Sum ℕ} → Adding part stop p₀ p → p.at < stop → {d : Decoded}
       → decoded (drop p.at part) ≡ Some d → Adding part stop p₀ (further p d.gap d.length)
   adding_more v h {d} e =
       adding_on v (record { g = d.gap; f = d.count; l = d.length; before_stop = h; found = e })
 
-  pub adding_ends : {p₀ p : Sum} → Adding part stop p₀ p → Ends part stop p → p ≡ added_to part stop p₀
+  pub adding_ends : {p₀ p : Sum ℕ} → Adding part stop p₀ p → Ends part stop p → p ≡ added_to part stop p₀
   unfolding added_to
   adding_ends v e = sym (v.is ∙ add-ends v.k e)
 
 -- ---- in two parts
 
 module _ (part : List ℕ) (stop end : ℕ) (h : stop ≤ end) where
-  sooner : {p : Sum} → Adds part stop p → Adds part end p
+  sooner : {p : Sum ℕ} → Adds part stop p → Adds part end p
   sooner w = record { g = w.g; f = w.f; l = w.l; before_stop = omega (arith, w.before_stop); found = w.found }
 
-  two_parts : (k m : ℕ) (p : Sum) → end ≤ p.at + m → add_from m part end (add_from k part stop p) ≡ add_from m part end p
+  two_parts : (k m : ℕ) (p : Sum ℕ) → end ≤ p.at + m → add_from m part end (add_from k part stop p) ≡ add_from m part end p
   unfolding add_from sooner
   two_parts zero m p i = refl
   two_parts (suc k) m p i = go (adds-or-ends part stop p) m i (λ m q. two_parts k m q)
     where
       go : Adds part stop p ⊎ Ends part stop p → (m : ℕ) → end ≤ p.at + m
-          → ((m : ℕ) (q : Sum) → end ≤ q.at + m → add_from m part end (add_from k part stop q) ≡ add_from m part end q)
+          → ((m : ℕ) (q : Sum ℕ) → end ≤ q.at + m → add_from m part end (add_from k part stop q) ≡ add_from m part end q)
           → add_from m part end (add_from (suc k) part stop p) ≡ add_from m part end p
       go (inr e) m i ih = ap (add_from m part end) (add-ends part stop (suc k) e)
       go (inl w) zero i ih = absurd (omega (arith, w.before_stop))
@@ -141,23 +141,23 @@ module _ (part : List ℕ) (stop end : ℕ) (h : stop ≤ end) where
           ∙ add_enough part end (suc m) m q (omega arith) (omega arith)
           ∙ sym (add-on part end m (sooner w))
 
-pub added_in_two : (part : List ℕ) (stop end : ℕ) → stop ≤ end → end ≤ length part → (p : Sum) → added_to part end (added_to part stop p) ≡ added_to part end p
+pub added_in_two : (part : List ℕ) (stop end : ℕ) → stop ≤ end → end ≤ length part → (p : Sum ℕ) → added_to part end (added_to part stop p) ≡ added_to part end p
 unfolding added_to
 added_in_two part stop end h i p = two_parts part stop end h (length part) (length part) p (omega arith)
 
 -- ---- numbers
 
 module _ (part : List ℕ) (stop : ℕ) where
-  abbrev add : ℕ → Sum → Sum
+  abbrev add : ℕ → Sum ℕ → Sum ℕ
   add k p = add_from k part stop p
 
   -- numbers only grow
-  pub add_grows : (k : ℕ) (p : Sum) → p.number ≤ (add k p).number
+  pub add_grows : (k : ℕ) (p : Sum ℕ) → p.number ≤ (add k p).number
   unfolding add_from
   add_grows zero p = omega arith
   add_grows (suc k) p = go (adds-or-ends part stop p) (λ q. add_grows k q)
     where
-      go : Adds part stop p ⊎ Ends part stop p → ((q : Sum) → q.number ≤ (add k q).number) → p.number ≤ (add (suc k) p).number
+      go : Adds part stop p ⊎ Ends part stop p → ((q : Sum ℕ) → q.number ≤ (add k q).number) → p.number ≤ (add (suc k) p).number
       go (inl w) ih = rw (add-on part stop k w) (omega (arith, ih (further p w.g w.l)))
       go (inr e) ih = rw (add-ends part stop (suc k) e) (omega arith)
 
@@ -171,18 +171,18 @@ any-count part stop zero at number c d = refl
 any-count part stop (suc k) at number c d =
     go (adds-or-ends part stop (record { at = at; number = number; postings = c })) (λ at number c d. any-count part stop k at number c d)
   where
-    p : ℕ → Sum
+    p : ℕ → Sum ℕ
     p c = record { at = at; number = number; postings = c }
 
     go : Adds part stop (p c) ⊎ Ends part stop (p c)
         → ((at number c d : ℕ) → (add_from k part stop (record { at = at; number = number; postings = c })).number ≡ (add_from k part stop (record { at = at; number = number; postings = d })).number)
         → (add_from (suc k) part stop (p c)).number ≡ (add_from (suc k) part stop (p d)).number
-    go (inr (at_stop h)) ih = ap (λ (x : Sum). x.number) (add-ends part stop (suc k) {p = p c} (at_stop h)) ∙ sym (ap (λ (x : Sum). x.number) (add-ends part stop (suc k) {p = p d} (at_stop h)))
+    go (inr (at_stop h)) ih = ap (λ (x : Sum ℕ). x.number) (add-ends part stop (suc k) {p = p c} (at_stop h)) ∙ sym (ap (λ (x : Sum ℕ). x.number) (add-ends part stop (suc k) {p = p d} (at_stop h)))
     go (inr (no_posting e)) ih =
-        ap (λ (x : Sum). x.number) (add-ends part stop (suc k) {p = p c} (no_posting e)) ∙ sym (ap (λ (x : Sum). x.number) (add-ends part stop (suc k) {p = p d} (no_posting e)))
+        ap (λ (x : Sum ℕ). x.number) (add-ends part stop (suc k) {p = p c} (no_posting e)) ∙ sym (ap (λ (x : Sum ℕ). x.number) (add-ends part stop (suc k) {p = p d} (no_posting e)))
     go (inl w) ih =
         let v : Adds part stop (p d) = record { g = w.g; f = w.f; l = w.l; before_stop = w.before_stop; found = w.found } in
-        ap (λ (x : Sum). x.number) (add-on part stop k w) ∙ ih (at + w.l) (number + w.g) (c + 1) (d + 1) ∙ sym (ap (λ (x : Sum). x.number) (add-on part stop k v))
+        ap (λ (x : Sum ℕ). x.number) (add-on part stop k w) ∙ ih (at + w.l) (number + w.g) (c + 1) (d + 1) ∙ sym (ap (λ (x : Sum ℕ). x.number) (add-on part stop k v))
 
 -- what bounds the number at every offset that is reached, posting by posting, bounds them all
 module _ (part : List ℕ) (reports : ℕ) (P : ℕ → ℕ → Type 0)
@@ -193,7 +193,7 @@ module _ (part : List ℕ) (reports : ℕ) (P : ℕ → ℕ → Type 0)
   sum_by zero at n j x = low at n x
   sum_by (suc fuel) at n j x = go (adds-or-ends part (length part) p) (λ at n j y. sum_by fuel at n j y)
     where
-      p : Sum
+      p : Sum ℕ
       p = record { at = at; number = n; postings = j }
 
       go : Adds part (length part) p ⊎ Ends part (length part) p
@@ -217,10 +217,10 @@ module _ {part : List ℕ} {reports at n : ℕ} (b : Bounded part reports at n) 
   bounded_on {g} {f} {l} h e =
       let w : Adds part (length part) (sum_of at n) = record { g = g; f = f; l = l; before_stop = h; found = e } in
       let z = adds_byte part (length part) w in
-      let x : Sum = further (sum_of at n) g l in
+      let x : Sum ℕ = further (sum_of at n) g l in
       let y : add_from (length part) part (length part) (sum_of at n) ≡ add_from (length part) part (length part) x
       = add_enough part (length part) (length part) (suc (length part)) (sum_of at n) (omega arith) (omega arith) ∙ add-on part (length part) (length part) w in
-      record { last = omega (arith, b.last, ap (λ (z : Sum). z.number) y, any-count part (length part) (length part) (at + l) (n + g) 1 0) }
+      record { last = omega (arith, b.last, ap (λ (z : Sum ℕ). z.number) y, any-count part (length part) (length part) (at + l) (n + g) 1 0) }
 
   pub bounded_more : (more : ℕ) → reports ≤ more → Bounded part more at n
   bounded_more more h = record { last = omega (arith, b.last) }

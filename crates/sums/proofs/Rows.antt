@@ -81,7 +81,7 @@ lanes_total f xs w =
 
 -- ---- the postings
 
-abbrev state : ℕ → ℕ → ℕ → Sum
+abbrev state : ℕ → ℕ → ℕ → Sum ℕ
 state at number postings = record { at = at; number = number; postings = postings }
 
 same_state : {a a' n n' c c' : ℕ} → a ≡ a' → n ≡ n' → c ≡ c' → state a n c ≡ state a' n' c'

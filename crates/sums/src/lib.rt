@@ -9,14 +9,14 @@ ghost use Rattle.sums.specs.Rows.{is_second, gap_of, mark_of, gap_at, mark_at, l
 // The offset behind the last posting, the number that the gaps lead to, whatever reports there are, and how many
 // postings they are.
 #[derive(Clone, Copy)]
-pub struct Sum {
+pub struct Sum<N> {
     pub at: usize,
-    pub number: u64,
+    pub number: N,
     pub postings: u32,
 }
 
 // Adds up the postings that start before offset `stop`, or those before one that is not sound.
-fn add_up(part: &[u8], from: Sum, stop: usize) -> Sum
+fn add_up(part: &[u8], from: Sum<u64>, stop: usize) -> Sum<u64>
     requires { (stop ≤ length part.now) × (length part.now ≤ 64) × Small from }
     ensures { (result ≡ added_to part.now stop from) × Small result }
 {
@@ -140,7 +140,7 @@ fn read_rows(part: &[u8]) -> Option<RowSum>
 }
 
 // Adds up all postings of a part from offset `at` on, behind the posting of that number.
-pub fn add_all(part: &[u8], at: usize, number: u32) -> Sum
+pub fn add_all(part: &[u8], at: usize, number: u32) -> Sum<u64>
     requires { length part.now ≤ 64 }
     ensures { result ≡ added_to part.now (length part.now) (sum_of at number) }
 {
