@@ -4,7 +4,7 @@ use Rattle.basics.specs.Lists.{keep}
 use Rattle.refusals.specs.declared.Refusal.{Refusal}
 use Rattle.refusals.specs.declared.Refusal.TheVariants.{Damaged}
 use Rattle.refusals.specs.Numbers.{number_of}
-use Rattle.frames.specs.Frames.{first_term, query_refusal, query_start, query_terms}
+use Rattle.frames.specs.Frames.{query_refusal, query_start, query_terms}
 use Rattle.counters.specs.Counters.{Memory}
 use Rattle.blocks.specs.Fields.{link_size, head_of, capacity}
 use Rattle.blocks.specs.Prescribed.{Posting}
@@ -125,11 +125,10 @@ pub record Opened (a : List ℕ) (k : Counters) (hs : List ℕ) (cs : List Curso
 unfoldable pub all_from : List ℕ → Counters → List ℕ → ℕ → List Posting
 all_from a k hs start = common start (map (postings_at a k) hs)
 
--- a sound query's frame from its first term on, with room for its heads
-pub record Named (a : List ℕ) (k : Counters) (f : List ℕ) (at : ℕ) (hs : List ℕ) : Type 0 where
+-- a sound query's frame, with room for the heads of its terms
+pub record Named (a : List ℕ) (k : Counters) (f hs : List ℕ) : Type 0 where
   pub inside : k.used ≤ capacity a
   pub sound : query_refusal 3 8 f ≡ 0
-  pub start : at ≡ first_term
   pub room : length hs ≡ 8
 
 -- what the chains of the named terms tell: damage; or that nothing matches; or the matches, by the first n heads
