@@ -1,4 +1,4 @@
--- The text of the desk's answers (document 01, "The desk program"): lists of bytes in ASCII.
+-- The text of the desk's answers: lists of bytes in ASCII.
 use Rattle.std.specs.Prelude.{ℕ, zero, suc, ◌+◌, ◌/◌, ◌%◌, List, [], ◌∷◌, ◌++◌, Bool, cond, ltb, eqb, take}
 use Rattle.ingest.specs.declared.ReportAnswer.{ReportAnswer}
 use Rattle.query.specs.declared.ListAnswer.{ListAnswer}

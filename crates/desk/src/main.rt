@@ -1,11 +1,20 @@
-// The desk program: reads frames from standard input and writes one line for each. The lines for a whole input are `desk_output` of specs/Desk.antt;
-// the functions here are proved against it up to the calls that read and write.
+// The desk program: reads frames from standard input and writes one line for each. The lines for a whole input are
+// `desk_output` of specs/Desk.antt; the functions here are proved against it up to the calls that read and write.
 #![tactic(auto)]
 
 ghost use Rattle.std.specs.Prelude.{◌≡◌, ◌+◌, ◌-◌, ◌*◌, ◌≤◌, ◌<◌, [], ◌∷◌, Some, None, length, get_or, take, drop};
 ghost use Rattle.frames.specs.Frames.{body_length};
 ghost use Rattle.counters.specs.Counters.{memory};
-ghost use Rattle.desk.specs.Text.{decimal, numbered, report_line, pair_text, pairs_text, place_text, places_text, end_text};
+ghost use Rattle.desk.specs.Text.{
+  decimal,
+  numbered,
+  report_line,
+  pair_text,
+  pairs_text,
+  place_text,
+  places_text,
+  end_text,
+};
 ghost use Rattle.desk.specs.Desk.{kind_of, other_refusal, answered, answered_as, frame_length, overlong};
 ghost use Rattle.desk.specs.Needs.{Puts, Answers, Settles, Turns, Reads, longest_line, ready_length, waiting_for};
 ghost use Rattle.desk.specs.Claims.{LastRefused, TellsLedger};
@@ -166,7 +175,8 @@ fn answer_report(
     at: usize,
 ) -> Answer
     requires { at + longest_line ≤ length out.old }
-    ensures { Answers (answered_as (Some Kind.Report) (memory arena.old table.old k) frame.now) out.old at result (memory arena.new table.new result.counters) out.new }
+    ensures { Answers (answered_as (Some Kind.Report) (memory arena.old table.old k) frame.now) out.old at result
+        (memory arena.new table.new result.counters) out.new }
 {
     let taken = ingest::take_report(arena, table, k, frame);
     Answer {
@@ -185,7 +195,8 @@ fn answer_one(
     at: usize,
 ) -> usize
     requires { at + longest_line ≤ length out.old }
-    ensures { Puts longest_line out.old at (answered_as (Some Kind.One) (memory arena.now table.now k) frame.now).line result out.new }
+    ensures { let a = answered_as (Some Kind.One) (memory arena.now table.now k) frame.now in
+        Puts longest_line out.old at a.line result out.new }
 {
     let mut numbers = [0u32; 16];
     let mut counts = [0u32; 16];
@@ -209,7 +220,8 @@ fn answer_all(
     at: usize,
 ) -> usize
     requires { at + longest_line ≤ length out.old }
-    ensures { Puts longest_line out.old at (answered_as (Some Kind.All) (memory arena.now table.now k) frame.now).line result out.new }
+    ensures { let a = answered_as (Some Kind.All) (memory arena.now table.now k) frame.now in
+        Puts longest_line out.old at a.line result out.new }
 {
     let mut numbers = [0u32; 16];
     let a = query::list_all(arena, table, k, frame, &mut numbers);
@@ -243,7 +255,8 @@ fn answer_frame(
     at: usize,
 ) -> Answer
     requires { at + longest_line ≤ length out.old }
-    ensures { Answers (answered (memory arena.old table.old k) frame.now) out.old at result (memory arena.new table.new result.counters) out.new }
+    ensures { Answers (answered (memory arena.old table.old k) frame.now) out.old at result
+        (memory arena.new table.new result.counters) out.new }
 {
     match kind_of(frame) {
         Some(Kind::Report) => answer_report(arena, table, k, frame, out, at),
@@ -308,7 +321,8 @@ fn waiting(ended: bool) -> Next
     if ended { Next::Stop } else { Next::Read }
 }
 
-// Answers the frames at the front of the bytes at hand, as long as the output has room for a line, which takes at most 356 bytes.
+// Answers the frames at the front of the bytes at hand, as long as the output has room for a line, which takes at most
+// 356 bytes.
 fn settle(
     arena: &mut [u8],
     table: &mut [u32],
@@ -317,7 +331,8 @@ fn settle(
     ended: bool,
     out: &mut [u8],
 ) -> Settled
-    ensures { Settles (memory arena.old table.old k) input.now ended out.old result (memory arena.new table.new result.counters) out.new }
+    ensures { Settles (memory arena.old table.old k) input.now ended out.old result
+        (memory arena.new table.new result.counters) out.new }
 {
     let mut counters = k;
     let mut taken: usize = 0;
@@ -364,14 +379,15 @@ fn take_turn(
     out: &mut [u8],
 ) -> Settled
     requires { held ≤ length input.old }
-    ensures { Turns (memory arena.old table.old k) (take held input.old) ended out.old result (memory arena.new table.new result.counters) input.new out.new }
+    ensures { Turns (memory arena.old table.old k) (take held input.old) ended out.old result
+        (memory arena.new table.new result.counters) input.new out.new }
 {
     let s = settle(arena, table, k, &input[..held], ended, out);
     input.copy_within(s.taken..held, 0);
     s
 }
 
-// Reads once, behind the bytes that are held, of which there may be more. There is room for a byte, so nothing read means the end.
+// Reads once, behind the bytes that are held. There is room for a byte, so nothing read means the end.
 fn read_more(rt: &HostRuntime, input: &mut [u8], held: usize) -> io::Result<usize>
     requires { held < length input.old }
     ensures { Reads input.old held result input.new }
@@ -394,15 +410,15 @@ fn print(rt: &(impl Print + Eprint), text: &[u8]) -> bool {
     is_written
 }
 
-// Pinned as contracts, so that the gate fails without them: the frame that ends the program is refused under 1 or 2, and the whole output is the one
-// that the plain ledger gives.
+// Pinned as contracts, so that the gate fails without them: the frame that ends the program is refused under 1 or 2,
+// and the whole output is the one that the plain ledger gives.
 fn claims_hold()
     ensures last_refused { LastRefused }
     ensures tells_ledger { TellsLedger }
 {}
 
-// Turn after turn: the lines are written and more is read, until the input ends or a frame stops the program. A proved loop has to end, and nothing
-// says that the input does: so the turns are counted, from a number that no run uses up.
+// Turn after turn: the lines are written and more is read, until the input ends or a frame stops the program. A proved
+// loop has to end, and nothing says that the input does: so the turns are counted, up to a number that no run reaches.
 fn main(rt: HostRuntime) {
     let mut arena = [0u8; 64000];
     let mut table = [0u32; 512];

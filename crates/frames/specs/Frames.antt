@@ -1,4 +1,4 @@
--- Reading a frame (document 01, "Frames"; the rows Frame and Terms of "Where each refusal is checked").
+-- Reading a frame: its parts, its fields, the refusals 1 to 7 that it can meet, and what a sound one says.
 use Rattle.std.specs.Prelude.{ℕ, zero, suc, ◌+◌, ◌-◌, ◌*◌, ◌≤◌, ◌<◌, List, [], ◌∷◌, ◌++◌, map, Bool, false, cond, not, ◌||◌, ltb, eqb, length, get_or, take, drop}
 use Rattle.basics.specs.Words.{word_at}
 use Rattle.basics.specs.Lists.{any, same}

@@ -1,4 +1,4 @@
--- A table of refusals (document 01, "Where each refusal is checked"): numbers with their conditions, in the order in which they are judged.
+-- A table of refusals: numbers with their conditions, in the order in which they are judged.
 use Rattle.std.specs.Prelude.{ℕ, List, [], ◌∷◌, Bool, cond}
 
 pub record Row : Type 0 where

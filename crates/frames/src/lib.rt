@@ -1,4 +1,4 @@
-// Reading a frame (document 01, "Frames"): refusals 1 to 7, and a cursor that hands out one line or term after another.
+// Reading a frame: refusals 1 to 7, and cursors that hand out one line or term after another.
 #![tactic(auto)]
 
 ghost use Rattle.std.specs.Prelude.{◌≡◌, IfOk, OnOk, true, false, ◌+◌, ◌-◌, ◌≤◌, ◌<◌, length, get_or};
@@ -261,7 +261,8 @@ fn read_lines(frame: &[u8], names: &[u8], hashes: &mut [u32]) -> Result<usize, R
 // Whether a line of the chain from `last` on has the folded term of the line at c.
 fn in_chain(frame: &[u8], names: &[u8], earlier: &[u16; MAX_LINES], last: u16, c: Cursor) -> bool
     requires { Folds frame.now names.now × Chained frame.now earlier.now last × Field count_bytes frame.now c.at }
-    ensures { result ≡ any (λ at. same (folded_at frame.now c.at) (folded_at frame.now at)) (chain earlier.now last) }
+    ensures { result
+        ≡ any (λ at. same (folded_at frame.now c.at) (folded_at frame.now at)) (chain earlier.now last) }
 {
     let mut at = usize::from(last);
     while at != 0 {
@@ -274,9 +275,11 @@ fn in_chain(frame: &[u8], names: &[u8], earlier: &[u16; MAX_LINES], last: u16, c
     false
 }
 
-// Refusal 7: whether two lines have one folded term. Lines are chained by the last byte of their hash, so that each is compared with few others.
+// Refusal 7: whether two lines have one folded term. Lines are chained by the last byte of their hash, so that each is
+// compared with few others.
 fn repeated_term(frame: &[u8], names: &[u8], hashes: &[u32]) -> bool
-    requires { (length frame.now ≤ max_body + 3) × (passes_end count_bytes frame.now first_line ≡ false) × Folds frame.now names.now × (hashes.now ≡ hashes_of frame.now (lines frame.now)) }
+    requires { (length frame.now ≤ max_body + 3) × (passes_end count_bytes frame.now first_line ≡ false)
+        × Folds frame.now names.now × (hashes.now ≡ hashes_of frame.now (lines frame.now)) }
     ensures { result ≡ repeated_term frame.now (lines frame.now) }
 {
     let mut last = [0u16; 256];
@@ -295,8 +298,9 @@ fn repeated_term(frame: &[u8], names: &[u8], hashes: &[u32]) -> bool
 
 // ---- the checks
 
+// A report's frame, or how many lines it has. Leaves its folded bytes and the hashes of its lines to the caller, who
+// looks the lines up by them.
 #[tactic(auto, unfolding(crate::specs::Refusals::first_of, crate::specs::Frames::head_rows, crate::specs::Frames::field_rows, crate::specs::Frames::report_rows, crate::specs::Frames::report_refusal))]
-// A report's frame, or how many lines it has. Leaves its folded bytes and the hashes of its lines to the caller, who looks the lines up by them.
 pub fn read_report(frame: &[u8], names: &mut [u8], hashes: &mut [u32]) -> Result<usize, Refusal>
     requires { (max_body + 3 ≤ length names.old) × (max_lines ≤ length hashes.old) }
     ensures refused { refused_under result ≡ report_refusal frame.now }

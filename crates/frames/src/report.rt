@@ -1,7 +1,16 @@
 // The lines of a report that is not refused.
 
 ghost use Rattle.std.specs.Prelude.{◌≡◌, IfOk, false, ◌+◌, ◌≤◌, length};
-ghost use Rattle.frames.specs.Frames.{max_body, count_bytes, first_line, fields, lines, passes_end, bad_term, report_refusal};
+ghost use Rattle.frames.specs.Frames.{
+  max_body,
+  count_bytes,
+  first_line,
+  fields,
+  lines,
+  passes_end,
+  bad_term,
+  report_refusal,
+};
 ghost use Rattle.frames.specs.Read.{Folds, max_lines, hashes_of};
 ghost use Rattle.std.specs.Iterator.{at_most};
 ghost use Rattle.refusals.specs.Numbers.{refused_under};
