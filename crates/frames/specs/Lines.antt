@@ -1,18 +1,15 @@
 -- Going over the lines of a report.
 use Rattle.std.specs.Prelude.{ℕ, ◌≡◌, ◌≤◌, ◌<◌, ◌+◌, List, length, Option, MatchOption}
-use Rattle.terms.specs.Terms.{max_term, fnv1a}
 use Rattle.frames.specs.declared.report.Line.{Line}
 use Rattle.frames.specs.declared.report.LinesLeft.{LinesLeft}
 use Rattle.frames.specs.Frames.{count_bytes, past_field, folded_at, count_at}
 
--- the line of a frame at an offset, its folded term with its hash and its count
+-- the line of a frame at an offset, its folded term and its count
 pub record LineIs (f : List ℕ) (at : ℕ) (l : Line) : Type 0 where
   pub starts : at < length f
-  pub name : l.name.now ≡ folded_at f at
-  pub hash : l.hash ≡ fnv1a (folded_at f at)
+  pub name : l.name.bytes.now ≡ folded_at f at
   pub count : l.count ≡ count_at f at
-  pub some : 0 < length l.name.now
-  pub short : length l.name.now ≤ max_term
+  pub some : 0 < length l.name.bytes.now
 
 -- a call of `next`: the frame's end, or the line here, after which those past it are left
 pub record Leaves (s : LinesLeft) (l : Line) (t : LinesLeft) : Type 0 where

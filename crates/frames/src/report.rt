@@ -17,6 +17,7 @@ ghost use Rattle.refusals.specs.Numbers.{refused_under};
 
 use crate::Cursor;
 use refusals::Refusal;
+use terms::Name;
 
 // A sound report as reading leaves it: its frame, the frame's bytes folded, and the hash of each line's folded term.
 #[derive(Clone, Copy)]
@@ -30,11 +31,10 @@ pub struct Lines<'a> {
     ghost few: { length hashes.now ≤ max_lines },
 }
 
-// A line: its folded term with its hash, and its count.
+// A line: its folded term and its count.
 #[derive(Clone, Copy)]
 pub struct Line<'a> {
-    pub name: &'a [u8],
-    pub hash: u32,
+    pub name: Name<'a>,
     pub count: u32,
 }
 
@@ -98,8 +98,10 @@ impl<'a> Iterator for LinesLeft<'a> {
         self.at = c.past(self.frame, 4).at;
         self.hashes = others;
         Some(Line {
-            name: c.name(self.frame, self.names),
-            hash: *hash,
+            name: Name {
+                bytes: c.name(self.frame, self.names),
+                hash: *hash,
+            },
             count: c.count(self.frame),
         })
     }

@@ -78,15 +78,15 @@ module _ {f : List ℕ} {n at : ℕ} (s : Stands f n at) (h : n < length (lines 
 
 -- ---- the lines that come
 
--- the folded term of a line, with its hash and its count
-abbrev item : Line → List ℕ × (ℕ × ℕ)
-item l = (l.name.now, (l.hash, l.count))
+-- the folded term of a line and its count
+abbrev item : Line → List ℕ × ℕ
+item l = (l.name.bytes.now, l.count)
 
-abbrev item_at : List ℕ → ℕ → List ℕ × (ℕ × ℕ)
-item_at f at = (folded_at f at, (fnv1a (folded_at f at), count_at f at))
+abbrev item_at : List ℕ → ℕ → List ℕ × ℕ
+item_at f at = (folded_at f at, count_at f at)
 
 -- of all lines
-abbrev items : List ℕ → List (List ℕ × (ℕ × ℕ))
+abbrev items : List ℕ → List (List ℕ × ℕ)
 items f = map (item_at f) (lines f)
 
 walk : (k : ℕ) (s : LinesLeft) → length s.frame.now ≤ s.at + k → AlwaysYields LineGoes item s (map (item_at s.frame.now) (fields_up_to k count_bytes s.frame.now s.at))
@@ -99,8 +99,8 @@ walk (suc k) s h =
       λ x j g.
           let e : map (item_at j.frame.now) (fields_up_to k count_bytes j.frame.now j.at) ≡ map (item_at s.frame.now) (fields_up_to k count_bytes s.frame.now (past_field count_bytes s.frame.now s.at)) =
           rw (g.frame, g.past) refl in (
-            rw (g.here.name, g.here.hash, g.here.count) refl,
-            subst (λ (ys : List (List ℕ × (ℕ × ℕ))). AlwaysYields LineGoes item j ys) e (walk k j (omega (arith, g.past, past_more count_bytes s.frame.now s.at, ap length g.frame))),
+            rw (g.here.name, g.here.count) refl,
+            subst (λ (ys : List (List ℕ × ℕ)). AlwaysYields LineGoes item j ys) e (walk k j (omega (arith, g.past, past_more count_bytes s.frame.now s.at, ap length g.frame))),
           ),
     ))
     (λ l. rw (le-ltb s.at (length s.frame.now) l) (λ x j g. omega (arith, g.here.starts)))
@@ -136,9 +136,8 @@ module _ (l : Lines) where
     pub counted : n < length (lines l.frame.now)
     pub enough : n < length l.hashes.now
     pub stands : Stands l.frame.now n (offset n)
-    pub name : x.name.now ≡ folded_at l.frame.now (offset n)
-    pub hash : x.hash ≡ fnv1a x.name.now
-    pub nth : get_or l.hashes.now n 0 ≡ x.hash
+    pub name : x.name.bytes.now ≡ folded_at l.frame.now (offset n)
+    pub nth : get_or l.hashes.now n 0 ≡ x.name.hash
     pub count : x.count ≡ count_at l.frame.now (offset n)
 
   in_hand : (n : ℕ) {x : Line} → n < length (items l.frame.now) → item x ≡ get_or (items l.frame.now) n (item x) → InHand n x
@@ -147,16 +146,15 @@ module _ (l : Lines) where
       let f = l.frame.now in
       let counted : n < length (lines f) = omega (arith, length-map (lines f) (item_at f)) in
       let here : item x ≡ item_at f (offset n) = q ∙ get_or-map (item_at f) (lines f) n 0 (item x) counted in
-      let name : x.name.now ≡ folded_at f (offset n) = ap (λ p. p.0) here in
-      let hash : x.hash ≡ fnv1a (folded_at f (offset n)) = ap (λ p. p.1.0) here in
+      let name : x.name.bytes.now ≡ folded_at f (offset n) = ap (λ p. p.0) here in
+      let hash : x.name.hash ≡ fnv1a (folded_at f (offset n)) = x.name.hashed ∙ ap fnv1a name in
       record {
         counted = counted;
         enough = omega (arith, hashes_long);
         stands = stands_nth f l.sound n counted;
         name = name;
-        hash = rw name hash;
         nth = ap (λ (hs : List ℕ). get_or hs n 0) l.hashed ∙ get_or-map (λ (i : ℕ). fnv1a (folded_at f i)) (lines f) n 0 0 counted ∙ sym hash;
-        count = ap (λ p. p.1.1) here;
+        count = ap (λ p. p.1) here;
       }
 
 -- ---- going over the lines along with what is kept for each

@@ -17,7 +17,7 @@ ghost use Rattle.ingest.specs.declared.Place.TheVariants.{New};
 
 use blocks::Head;
 use counters::Counters;
-use frames::Lines;
+use frames::{Line, Lines, MAX_LINES};
 use lookup::Found;
 use refusals::Refusal;
 
@@ -57,15 +57,11 @@ pub struct Stopped {
     pub left: Counters,
 }
 
-// A line at its turn: its folded term with the hash of that, its count, and the entry that is kept for it, 0 for none.
+// A line at its turn, and the entry that is kept for it, 0 for none.
 #[derive(Clone, Copy)]
 struct Turn<'a> {
-    name: &'a [u8],
-    hash: u32,
-    count: u32,
+    line: Line<'a>,
     kept: u32,
-    ghost short: { length name.now ≤ max_term },
-    ghost hashed: { hash ≡ fnv1a name.now },
 }
 
 // ---- where a line goes
@@ -169,17 +165,16 @@ fn plan_lines(arena: Arena, table: &[u32], lines: Lines, kept: &mut [u32]) -> Re
 {
     let bytes = arena.bytes;
     let used = arena.k.used;
-    let count = lines.hashes.len();
-    let mut lengths = [0u8; 820];
-    lookup::first_entries(table, lines.hashes, count, kept);
-    lookup::first_lengths(bytes, used, kept, count, &mut lengths);
+    let mut lengths = [0u8; MAX_LINES];
+    lookup::first_entries(table, lines.hashes, kept);
+    lookup::first_lengths(bytes, used, &kept[..lines.hashes.len()], &mut lengths);
     let mut plan = Plan {
         terms: 0,
         blocks: 0,
     };
     for (n, line) in lines.iter().enumerate() {
         let entry = kept[n];
-        let found = lookup::find_from(bytes, used, table, line.name, line.hash, entry, lengths[n]);
+        let found = lookup::find_from(bytes, used, table, line.name, entry, lengths[n]);
         kept[n] = lookup::first_hit(found, entry);
         plan = plan.with(arena.place_found(found?, line.count)?);
     }
@@ -256,17 +251,17 @@ fn open_line(
     arena: &mut [u8],
     table: &mut [u32],
     k: Counters,
-    line: Turn,
+    line: Line,
     slot: u32,
 ) -> Result<Counters, Stopped>
     requires { Room arena.old k × (0 < slots table.old → slot < slots table.old) }
-    ensures { let l = line_of line.entry.name.now line.entry.count in
+    ensures { let l = line_of line.entry.name.bytes.now line.entry.count in
         wrote arena.new table.new result ≡ write_one (memory arena.old table.old k) (k.reports + 1) l (Ok (New slot)) }
 {
     if counters::max_terms(table) <= k.terms || blocks::capacity_of(arena) == k.used {
         return Err(Stopped { left: k });
     }
-    blocks::open_head(arena, k.used, line.name, k.reports + 1, line.count);
+    blocks::open_head(arena, k.used, line.name.bytes, k.reports + 1, line.count);
     lookup::enter_at(table, slot, k.used);
     Ok(Counters {
         used: k.used + 1,
@@ -281,20 +276,20 @@ fn find_again(
     arena: &[u8],
     used: u32,
     table: &[u32],
-    line: Turn,
+    turn: Turn,
     marks: &[bool; 1024],
 ) -> Result<Found, Refusal>
     requires { (place used ≤ length arena.now)
-        × KeptRight arena.now used table.now line.name.now line.kept marks.now }
-    ensures { result ≡ search arena.now used table.now line.entry.name.now }
+        × KeptRight arena.now used table.now turn.line.name.bytes.now turn.kept marks.now }
+    ensures { result ≡ search arena.now used table.now turn.entry.line.name.bytes.now }
 {
-    if 0 < line.kept {
-        let h = line.kept - 1;
+    if 0 < turn.kept {
+        let h = turn.kept - 1;
         if !marks[(h % 1024) as usize] {
             return Ok(Found::At(h));
         }
     }
-    lookup::find(arena, used, table, line.name, line.hash)
+    lookup::find(arena, used, table, turn.line.name)
 }
 
 // One line, judged afresh when its turn comes.
@@ -302,20 +297,20 @@ fn write_line(
     arena: &mut [u8],
     table: &mut [u32],
     k: Counters,
-    line: Turn,
+    turn: Turn,
     marks: &mut [bool; 1024],
 ) -> Result<Counters, Stopped>
-    requires { Held arena.old table.old k × KeptRight arena.old k.used table.old line.name.now line.kept marks.old }
+    requires { Held arena.old table.old k × KeptRight arena.old k.used table.old turn.line.name.bytes.now turn.kept marks.old }
     ensures line { let m = memory arena.old table.old k in
-        let l = line_of line.entry.name.now line.entry.count in
+        let l = line_of turn.entry.line.name.bytes.now turn.entry.line.count in
         wrote arena.new table.new result ≡ write_one m (k.reports + 1) l (place_of m l) }
     ensures marked { let m = memory arena.old table.old k in
-        let l = line_of line.entry.name.now line.entry.count in
+        let l = line_of turn.entry.line.name.bytes.now turn.entry.line.count in
         marks.new ≡ marking arena.old marks.old (place_of m l) }
 {
-    match find_again(arena, k.used, table, line, marks) {
-        Ok(Found::Unknown(slot)) => open_line(arena, table, k, line, slot),
-        Ok(Found::At(h)) => append_line(arena, k, h, line.count, marks),
+    match find_again(arena, k.used, table, turn, marks) {
+        Ok(Found::Unknown(slot)) => open_line(arena, table, k, turn.line, slot),
+        Ok(Found::At(h)) => append_line(arena, k, h, turn.line.count, marks),
         Err(_) => Err(Stopped { left: k }),
     }
 }
@@ -336,12 +331,7 @@ fn write_lines(
     let mut marks = [false; 1024];
     let mut left = k;
     for (line, kept) in lines.iter().zip(kept) {
-        let turn = Turn {
-            name: line.name,
-            hash: line.hash,
-            count: line.count,
-            kept: *kept,
-        };
+        let turn = Turn { line, kept: *kept };
         left = write_line(arena, table, left, turn, &mut marks)?;
     }
     Ok(left)
@@ -384,8 +374,8 @@ fn judge_and_write(
     ensures written { IfOk result (λ w. wrote arena.new table.new w ≡ write_lines (memory arena.old table.old k) (k.reports + 1) (report_lines frame.now)) }
 {
     let mut names = [0u8; 4100];
-    let mut hashes = [0u32; 820];
-    let mut kept = [0u32; 820];
+    let mut hashes = [0u32; MAX_LINES];
+    let mut kept = [0u32; MAX_LINES];
     let lines = Lines::read(frame, &mut names, &mut hashes)?;
     judge_report(arena, table, k, lines, &mut kept)?;
     Ok(write_lines(arena, table, k, lines, &kept))

@@ -53,10 +53,10 @@ first_hit (Ok (At b)) e = cond (eqb (b + 1) e) e 0
 first_hit (Ok (Unknown s)) e = 0
 first_hit (Err r) e = 0
 
--- the first `count` entries are those of the first `count` hashes
-pub record Entries (table hashes : List ℕ) (count : ℕ) (entries : List ℕ) : Type 0 where
-  pub each : (i : ℕ) → i < count → get_or entries i 0 ≡ first_entry table (get_or hashes i 0)
+-- the first entries are those of the hashes
+pub record Entries (table hashes entries : List ℕ) : Type 0 where
+  pub each : (i : ℕ) → i < length hashes → get_or entries i 0 ≡ first_entry table (get_or hashes i 0)
 
--- the first `count` lengths are those behind the first `count` entries
-pub record Lengths (a : List ℕ) (used : ℕ) (entries : List ℕ) (count : ℕ) (lengths : List ℕ) : Type 0 where
-  pub each : (i : ℕ) → i < count → get_or lengths i 0 ≡ length_behind a used (get_or entries i 0)
+-- the first lengths are those behind the entries
+pub record Lengths (a : List ℕ) (used : ℕ) (entries lengths : List ℕ) : Type 0 where
+  pub each : (i : ℕ) → i < length entries → get_or lengths i 0 ≡ length_behind a used (get_or entries i 0)

@@ -1,13 +1,14 @@
-// Finding a term in the table (document 01, "Finding a term").
+// Finding a term in the table: from the slot of its hash, one slot on and wrapping.
 #![tactic(auto)]
 
 ghost use Rattle.std.specs.Prelude.{◌≡◌, ◌+◌, ◌≤◌, ◌<◌, length};
 ghost use Rattle.basics.specs.Lists.{same};
-ghost use Rattle.terms.specs.Terms.{max_term, folded, fnv1a};
+ghost use Rattle.terms.specs.Terms.{max_term, folded};
 ghost use Rattle.blocks.specs.Fields.{max_word, block_size, place, name_of};
 ghost use Rattle.lookup.specs.Lookup.{slots, search, enter, first_entry, length_behind, first_hit, Entries, Lengths};
 
 use refusals::Refusal;
+use terms::{Folded, Name};
 
 // What a search finds: the head's block, or the empty slot where the term would go.
 #[derive(Clone, Copy)]
@@ -26,33 +27,27 @@ pub fn slots_of(table: &[u32]) -> u32
 
 // Whether block b, read as a head, holds the folded term.
 #[tactic(auto, using(crate::proofs::Names::naming))]
-fn holds_name(arena: &[u8], b: u32, name: &[u8]) -> bool
-    requires { (place b + block_size ≤ length arena.now) × (length name.now ≤ max_term) }
-    ensures { result ≡ same (name_of arena.now b) name.now }
+fn holds_name(arena: &[u8], b: u32, name: Name) -> bool
+    requires { place b + block_size ≤ length arena.now }
+    ensures { result ≡ same (name_of arena.now b) name.entry.bytes.now }
 {
     let at = blocks::place_of(b);
-    let n = name.len();
-    usize::from(arena[at + 17]) == n && basics::same_bytes(&arena[at + 18..at + 18 + n], name)
+    let n = name.bytes.len();
+    usize::from(arena[at + 17]) == n && basics::same_bytes(&arena[at + 18..at + 18 + n], name.bytes)
 }
 
 // The search for a folded term: from the slot of its hash, one slot on and wrapping, to a match or an empty slot. Refused as damaged where a slot leads
 // to no used block, or all slots are filled and none is a match.
 #[tactic(auto, using(crate::proofs::Search::searching))]
-pub fn find(
-    arena: &[u8],
-    used: u32,
-    table: &[u32],
-    name: &[u8],
-    hash: u32,
-) -> Result<Found, Refusal>
-    requires { (place used ≤ length arena.now) × (length name.now ≤ max_term) × (hash ≡ fnv1a name.now) }
-    ensures { result ≡ search arena.now used table.now name.now }
+pub fn find(arena: &[u8], used: u32, table: &[u32], name: Name) -> Result<Found, Refusal>
+    requires { place used ≤ length arena.now }
+    ensures { result ≡ search arena.now used table.now name.entry.bytes.now }
 {
     let t = slots_of(table);
     if t == 0 {
         return Ok(Found::Unknown(0));
     }
-    let mut slot = hash % t;
+    let mut slot = name.hash % t;
     for _ in 0..t {
         let e = table[slot as usize];
         if e == 0 {
@@ -77,11 +72,8 @@ pub fn find_term(arena: &[u8], used: u32, table: &[u32], term: &[u8]) -> Result<
     requires { (place used ≤ length arena.now) × (length term.now ≤ max_term) }
     ensures { result ≡ search arena.now used table.now (folded term.now) }
 {
-    let mut bytes = [0u8; 36];
-    let n = term.len();
-    terms::fold(term, &mut bytes);
-    let name = &bytes[..n];
-    find(arena, used, table, name, terms::fnv1a(name))
+    let folded = Folded::new(term);
+    find(arena, used, table, folded.name())
 }
 
 // The entry of the slot where the search for a hash begins, in a table of t slots.
@@ -98,12 +90,12 @@ fn first_entry(table: &[u32], t: u32, hash: u32) -> u32
 }
 
 // The entries where the searches for several hashes begin, all asked for before any of them is compared, so that slow reads overlap.
-pub fn first_entries(table: &[u32], hashes: &[u32], count: usize, entries: &mut [u32])
-    requires { (count ≤ length hashes.now) × (count ≤ length entries.old) }
-    ensures { Entries table.now hashes.now count entries.new }
+pub fn first_entries(table: &[u32], hashes: &[u32], entries: &mut [u32])
+    requires { length hashes.now ≤ length entries.old }
+    ensures { Entries table.now hashes.now entries.new }
 {
     let t = slots_of(table);
-    for (i, hash) in hashes[..count].iter().enumerate() {
+    for (i, hash) in hashes.iter().enumerate() {
         entries[i] = first_entry(table, t, *hash);
     }
 }
@@ -121,11 +113,11 @@ fn length_behind(arena: &[u8], used: u32, e: u32) -> u8
 }
 
 // The lengths behind several entries, asked for together in the same way.
-pub fn first_lengths(arena: &[u8], used: u32, entries: &[u32], count: usize, lengths: &mut [u8])
-    requires { (place used ≤ length arena.now) × (count ≤ length entries.now) × (count ≤ length lengths.old) }
-    ensures { Lengths arena.now used entries.now count lengths.new }
+pub fn first_lengths(arena: &[u8], used: u32, entries: &[u32], lengths: &mut [u8])
+    requires { (place used ≤ length arena.now) × (length entries.now ≤ length lengths.old) }
+    ensures { Lengths arena.now used entries.now lengths.new }
 {
-    for (i, entry) in entries[..count].iter().enumerate() {
+    for (i, entry) in entries.iter().enumerate() {
         lengths[i] = length_behind(arena, used, *entry);
     }
 }
@@ -136,22 +128,22 @@ pub fn find_from(
     arena: &[u8],
     used: u32,
     table: &[u32],
-    name: &[u8],
-    hash: u32,
+    name: Name,
     entry: u32,
     stored: u8,
 ) -> Result<Found, Refusal>
-    requires { (place used ≤ length arena.now) × (0 < length name.now) × (length name.now ≤ max_term) × (hash ≡ fnv1a name.now) × (entry ≡ first_entry table.now hash) × (stored ≡ length_behind arena.now used entry) }
-    ensures { result ≡ search arena.now used table.now name.now }
+    requires { (place used ≤ length arena.now) × (0 < length name.bytes.now)
+        × (entry ≡ first_entry table.now name.hash) × (stored ≡ length_behind arena.now used entry) }
+    ensures { result ≡ search arena.now used table.now name.entry.bytes.now }
 {
-    let n = name.len();
+    let n = name.bytes.len();
     if usize::from(stored) == n {
         let from = blocks::place_of(entry - 1) + 18;
-        if basics::same_bytes(&arena[from..from + n], name) {
+        if basics::same_bytes(&arena[from..from + n], name.bytes) {
             return Ok(Found::At(entry - 1));
         }
     }
-    find(arena, used, table, name, hash)
+    find(arena, used, table, name)
 }
 
 // The first entry of a search that ended with a match there; 0 of any other.

@@ -5,6 +5,10 @@ ghost use Rattle.std.specs.Prelude.{◌≡◌, true, ◌≤◌, length};
 ghost use Rattle.std.proofs.lemmas.List.Edits.{sets};
 ghost use Rattle.terms.specs.Terms.{fold_byte, folded, is_term, mixed, fnv1a, judged_as};
 
+mod name;
+
+pub use name::{Folded, Name};
+
 // Whether folded bytes are those of a term, and their FNV-1a.
 #[derive(Clone, Copy)]
 pub struct Judged {

@@ -11,6 +11,7 @@ use frames::{Cursors, Kind, Lines, MAX_LINES, Query};
 use ingest::ReportAnswer;
 use query::ListAnswer;
 use refusals::Refusal;
+use terms::Folded;
 use std::io::{self, Read};
 
 fn print(rt: &impl Print, text: &str) -> io::Result<()> {
@@ -105,12 +106,10 @@ fn fold(rt: &impl Print, payload: &[u8]) -> io::Result<()> {
 fn print_folded(rt: &impl Print, term: &[u8]) -> io::Result<u32>
     requires { length term.now ≤ max_term }
 {
-    let mut bytes = [0u8; 36];
-    let n = term.len();
-    terms::fold(term, &mut bytes);
-    let name = &bytes[..n];
-    print_bytes(rt, name)?;
-    Ok(terms::fnv1a(name))
+    let folded = Folded::new(term);
+    let name = folded.name();
+    print_bytes(rt, name.bytes)?;
+    Ok(name.hash)
 }
 
 fn print_refusal(rt: &impl Print, refusal: Refusal) -> io::Result<()> {
@@ -127,7 +126,7 @@ fn report_frame(rt: &impl Print, frame: &[u8]) -> io::Result<()> {
         Ok(lines) => {
             print(rt, " lines")?;
             for line in lines.iter() {
-                print_bytes(rt, line.name)?;
+                print_bytes(rt, line.name.bytes)?;
                 print_count(rt, line.count)?;
             }
             Ok(())
@@ -234,11 +233,8 @@ fn print_chain(rt: &impl Print, arena: &[u8], used: u32) -> io::Result<()>
 fn open_first(arena: &mut [u8], term: &[u8], number: u32, count: u32)
     requires { (length term.now ≤ max_term) × (0 < number) × (64 ≤ length arena.old) }
 {
-    let mut bytes = [0u8; 36];
-    let n = term.len();
-    terms::fold(term, &mut bytes);
-    let name = &bytes[..n];
-    blocks::open_head(arena, 0, name, number, count);
+    let folded = Folded::new(term);
+    blocks::open_head(arena, 0, folded.name().bytes, number, count);
 }
 
 // Sort 6: the chain of one term, laid out in an arena of null bytes with its head at block 0.

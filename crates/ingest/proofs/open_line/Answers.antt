@@ -19,7 +19,7 @@ pub returns-then-max_terms-k : goal.returns-then-max_terms-k
 returns-then-max_terms-k c =
     let a = c.args in
     let m = memory a.arena.now a.table.now a.k in
-    sym (one-stops m (a.k.reports + 1) (line_of a.line.name.now a.line.count) (Ok (New a.slot)) (λ z.
+    sym (one-stops m (a.k.reports + 1) (line_of a.line.name.bytes.now a.line.count) (Ok (New a.slot)) (λ z.
     let room = new_room m a.slot z in
     elim c.then-max_terms-k.branch [
       | then-max_terms-k-via-then-max_terms-k w ↦ omega (arith, room.1)
@@ -29,7 +29,7 @@ returns-then-max_terms-k c =
 pub open_head-requires : goal.open_head-requires
 open_head-requires c =
     let block : c.args.k.used < capacity c.args.arena.now = omega (arith, c.requires.0.inside) in
-    (c.args.line.short, omega arith, next-inside c.args.arena.now c.args.k.used block)
+    (c.args.line.name.short, omega arith, next-inside c.args.arena.now c.args.k.used block)
 
 pub enter_at-requires : goal.enter_at-requires
 enter_at-requires c =
@@ -43,4 +43,4 @@ returns c =
     let a = c.args in
     let m = memory a.arena.now a.table.now a.k in
     rw (c.enter_at.ensures, c.open_head.ensures)
-    (sym (one_written m (a.k.reports + 1) (line_of a.line.name.now a.line.count) (Ok (New a.slot)) (new_passes m a.slot (omega (arith, c.requires.0.inside)) (omega arith))))
+    (sym (one_written m (a.k.reports + 1) (line_of a.line.name.bytes.now a.line.count) (Ok (New a.slot)) (new_passes m a.slot (omega (arith, c.requires.0.inside)) (omega arith))))

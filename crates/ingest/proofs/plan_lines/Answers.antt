@@ -1,11 +1,11 @@
 -- The first entries and the lengths behind them are asked for together; then the line in hand is planned and its entry kept or not.
 use mathlib.Core.Path.{◌≡◌, refl, sym, ap, ◌∙◌}
 use native.Mathlib.Omega.{arith}
-use lib.ListN.{get_or}
+use lib.ListN.{length, get_or}
 use Rattle.std.proofs.lemmas.Result.{err_from_is_err_and}
-use Rattle.std.proofs.lemmas.List.{length_push}
+use Rattle.std.proofs.lemmas.List.{length_push, length-take, length-take-le, get_or-take}
 use Rattle.terms.specs.Terms.{fnv1a}
-use Rattle.frames.proofs.Laws.{sound-name, sound-some}
+use Rattle.frames.proofs.Laws.{sound-some}
 use Rattle.blocks.proofs.Capacity.{used-inside}
 use Rattle.lookup.specs.Lookup.{search as sought, first_entry, length_behind, first_hit}
 use Rattle.counters.specs.Counters.{memory}
@@ -16,13 +16,12 @@ use Rattle.ingest.proofs.Keeping.{read_kept, keeps-none, keeps_more, keeps-all}
 use Rattle.ingest.proofs.plan_lines.Goals as goal
 
 pub first_entries-requires : goal.first_entries-requires
-first_entries-requires c = (omega arith, omega (arith, c.args.lines.few, c.requires))
+first_entries-requires c = omega (arith, c.args.lines.few, c.requires)
 
 pub first_lengths-requires : goal.first_lengths-requires
 first_lengths-requires c = (
   used-inside c.args.arena.bytes.now c.args.arena.k.used c.args.arena.room.inside,
-  omega (arith, c.args.lines.few, c.requires),
-  omega (arith, c.args.lines.few),
+  omega (arith, c.args.lines.few, length-take (length c.args.lines.hashes.now) c.first_entries.new.entries),
 )
 
 pub loop-n-init : goal.loop-n-init
@@ -55,10 +54,9 @@ find_from-found-requires c =
     let left : get_or c.loop-n.kept n 0 ≡ get_or c.first_entries.new.entries n 0 = c.loop-n.invariant.keeps.left n (omega arith) in (
       used-inside a.arena.bytes.now a.arena.k.used a.arena.room.inside,
       rw t.name (sound-some t.stands.sound h),
-      rw t.name (sound-name t.stands.sound h),
-      t.hash,
       left ∙ c.first_entries.ensures.each n t.enough ∙ ap (first_entry a.table.now) t.nth,
-      c.first_lengths.ensures.each n t.enough ∙ ap (length_behind a.arena.bytes.now a.arena.k.used) (sym left),
+      c.first_lengths.ensures.each n (omega (arith, t.enough, length-take-le (length a.lines.hashes.now) c.first_entries.new.entries (omega (arith, a.lines.few, c.requires))))
+          ∙ ap (length_behind a.arena.bytes.now a.arena.k.used) (get_or-take _ _ n 0 t.enough ∙ sym left),
     )
 
 pub bounds-kept-n-in-loop-n : goal.bounds-kept-n-in-loop-n
@@ -77,7 +75,7 @@ returns-in_err-found-clause-plan c =
 pub place_found-requires : goal.place_found-requires
 place_found-requires c =
     let a = c.args in
-    found_below a.arena.bytes.now a.arena.k.used a.table.now c.in-Some.line.name.now c.in_ok-found.field-0 (sym c.find_from-found.ensures ∙ c.in_ok-found.was)
+    found_below a.arena.bytes.now a.arena.k.used a.table.now c.in-Some.line.name.bytes.now c.in_ok-found.field-0 (sym c.find_from-found.ensures ∙ c.in_ok-found.was)
 
 pub returns-in_err-place_found-clause-plan : goal.returns-in_err-place_found-clause-plan
 returns-in_err-place_found-clause-plan c =
@@ -103,9 +101,9 @@ loop-n-preserved c =
     let x = c.in-Some.line in
     let place = read-place c.args.lines.frame.now _ t.name t.count m (sym c.find_from-found.ensures ∙ c.in_ok-found.was) in
     let left : get_or c.loop-n.kept n 0 ≡ get_or c.first_entries.new.entries n 0 = v.keeps.left n (omega arith) in
-    let entry : get_or c.loop-n.kept n 0 ≡ first_entry c.args.table.now (fnv1a x.name.now) =
-    left ∙ c.first_entries.ensures.each n t.enough ∙ ap (first_entry c.args.table.now) (t.nth ∙ t.hash) in
-    let hit : c.first_hit.result ≡ first_hit (sought c.args.arena.bytes.now c.args.arena.k.used c.args.table.now x.name.now) (first_entry c.args.table.now (fnv1a x.name.now)) =
+    let entry : get_or c.loop-n.kept n 0 ≡ first_entry c.args.table.now (fnv1a x.name.bytes.now) =
+    left ∙ c.first_entries.ensures.each n t.enough ∙ ap (first_entry c.args.table.now) (t.nth ∙ x.name.hashed) in
+    let hit : c.first_hit.result ≡ first_hit (sought c.args.arena.bytes.now c.args.arena.k.used c.args.table.now x.name.bytes.now) (first_entry c.args.table.now (fnv1a x.name.bytes.now)) =
     rw (← c.find_from-found.ensures, ← entry) c.first_hit.ensures in
     record {
       all = v.all;

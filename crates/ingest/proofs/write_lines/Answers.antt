@@ -1,19 +1,16 @@
 -- The line in hand is the n-th, and it was kept for it what the search found before writing.
 use mathlib.Core.Path.{◌≡◌, refl, sym, ap, ◌∙◌}
 use mathlib.Core.Bool.{Bool, false}
-use Prim.Native.Nat.{◌≤◌}
 use native.Mathlib.Omega.{arith}
-use lib.ListN.{length, length-replicate}
+use lib.ListN.{length-replicate}
 use Rattle.std.proofs.lemmas.Result.{err_from_is_err_and}
 use Rattle.std.proofs.lemmas.List.{length_push}
-use Rattle.terms.specs.Terms.{max_term}
 use Rattle.frames.specs.Frames.{line_at}
-use Rattle.frames.proofs.Laws.{sound-name}
 use Rattle.counters.specs.Counters.{memory}
 use Rattle.ingest.specs.Report.{line_of}
 use Rattle.ingest.specs.Kept.{kept_of, mark_count}
 use Rattle.ingest.proofs.Places.{read-line}
-use Rattle.ingest.proofs.Standing.{lines_done, inside, lines_more, hashes_long, offset, along_all, entry_turn, entries_end}
+use Rattle.ingest.proofs.Standing.{lines_done, lines_more, hashes_long, offset, along_all, entry_turn, entries_end}
 use Rattle.ingest.proofs.Keeping.{lasts_none, lasts_more, kept_found}
 use Rattle.ingest.proofs.Writing.{wrote_none, wrote_end, wrote_stop, wrote_more}
 use Rattle.ingest.proofs.write_lines.Goals as goal
@@ -27,21 +24,15 @@ loop-line-init c =
       lasts = lasts_none m _ (length-replicate {A = Bool} mark_count false);
     }
 
-pub invariant_of-turn : goal.invariant_of-turn
-invariant_of-turn c =
-    let t = entry_turn c.args.lines c.args.kept.now c.loop-line.invariant.along _ _ c.loop-line.yielded_by _ c.next.new.self c.next.ensures.steps c.in-Some.is in
-    record { short = rw t.0.name (sound-name t.0.stands.sound (inside t.0.stands t.0.counted)); hashed = t.0.hash }
-
 pub write_line-requires : goal.write_line-requires
 write_line-requires c =
     let a = c.args in
     let m = memory a.arena.now a.table.now a.k in
     let t = entry_turn c.args.lines c.args.kept.now c.loop-line.invariant.along _ _ c.loop-line.yielded_by _ c.next.new.self c.next.ensures.steps c.in-Some.is in
     let x = c.in-Some.line in
-    let short : length x.name.now ≤ max_term = rw t.0.name (sound-name t.0.stands.sound (inside t.0.stands t.0.counted)) in
-    let is : line_of x.name.now x.count ≡ line_at a.lines.frame.now (offset a.lines _) = read-line a.lines.frame.now _ t.0.name t.0.count in (
+    let is : line_of x.name.bytes.now x.count ≡ line_at a.lines.frame.now (offset a.lines _) = read-line a.lines.frame.now _ t.0.name t.0.count in (
       c.loop-line.invariant.wrote.held,
-      λ low z. kept_found c.loop-line.invariant.lasts c.requires.0 (line_of x.name.now x.count) short _
+      λ low z. kept_found c.loop-line.invariant.lasts c.requires.0 (line_of x.name.bytes.now x.count) x.name.short _
           (t.1 ∙ c.requires.2.each _ t.0.counted ∙ ap (kept_of m) (sym is)) low z,
     )
 
@@ -61,7 +52,7 @@ loop-line-preserved c =
       along = v.along;
       wrote = rw length_push
           (wrote_more v.wrote _ (lines_more t.0.stands t.0.counted) (read-line c.args.lines.frame.now _ t.0.name t.0.count) q refl);
-      lasts = rw c.write_line.ensures.marked (lasts_more v.lasts (line_of c.in-Some.line.name.now c.in-Some.line.count) q);
+      lasts = rw c.write_line.ensures.marked (lasts_more v.lasts (line_of c.in-Some.line.name.bytes.now c.in-Some.line.count) q);
     }
 
 pub returns : goal.returns

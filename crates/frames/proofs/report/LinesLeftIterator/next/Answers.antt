@@ -50,12 +50,20 @@ returns-clause-steps c =
       here = record {
         starts = h;
         name = c.name.ensures;
-        hash = first-hash s.frame.now s.at s.hashed _ _ c.in_ok-hash.ensures.cases.0 h;
         count = c.count.ensures;
         some = rw c.name.ensures (sound-some (sound_left s) h);
-        short = rw c.name.ensures (sound-name (sound_left s) h);
       };
       past = c.past.ensures;
       fewer = sym c.in_ok-hash.ensures.cases.1;
       frame = refl;
     }
+
+pub invariant_of-result : goal.invariant_of-result
+invariant_of-result c =
+    let s = c.args.self.now in
+    let h = starts s (omega (arith, c.in_ok-hash.ensures.cases.1)) in
+    rw c.name.ensures
+    (record {
+      short = sound-name (sound_left s) h;
+      hashed = first-hash s.frame.now s.at s.hashed _ _ c.in_ok-hash.ensures.cases.0 h;
+    })
