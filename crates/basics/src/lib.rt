@@ -6,13 +6,6 @@ ghost use Rattle.std.proofs.lemmas.List.Edits.{sets};
 ghost use Rattle.basics.specs.Words.{word, word_at};
 ghost use Rattle.basics.specs.Lists.{same};
 
-// A byte as a number.
-pub fn wide(b: u8) -> usize
-    ensures { (result ≡ b) × (result < 256) }
-{
-    usize::from(b)
-}
-
 // A length as a number of 32 bits: the largest one where it is longer.
 pub fn saturated(n: usize) -> u32
     ensures { result ≡ min n 4294967295 }

@@ -1,8 +1,12 @@
-// The counters of an index (document 01, "Memory lent to the index"). Inside the library they travel by value.
+// The counters of an index. Inside the library they travel by value.
 #![tactic(auto)]
 
 ghost use Rattle.std.specs.Prelude.{◌≡◌};
 ghost use Rattle.counters.specs.Counters.{max_terms, wrong_counters};
+
+mod lent;
+
+pub use lent::Lent;
 
 // Blocks used, terms held, reports held.
 #[repr(C)]
