@@ -8,7 +8,7 @@ use native.Mathlib.Omega.{arith}
 use borrow.Author.Tests.{leb-true}
 use Rattle.std.proofs.lemmas.Bool.Decides.{nat_tests}
 use Rattle.postings.proofs.Laws.{length-code_le}
-use lib.ListN.{length, get_or, replicate, length-append, length-replicate, get_or-replicate}
+use lib.ListN.{length, get_or, replicate, length-append, length-replicate}
 use lib.Seq.{sets, length-sets}
 use Rattle.basics.specs.Words.{word}
 use Rattle.basics.proofs.Cases.{by-lt, by-eq}

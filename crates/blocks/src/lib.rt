@@ -9,7 +9,10 @@ ghost use Rattle.blocks.specs.Fields.{block_size, capacity, place, link_of, head
 ghost use Rattle.blocks.specs.Marked.{marked_right};
 ghost use Rattle.blocks.specs.Writes.{padded, growing, changing, open_head, fits, add_to, join_to, append, Appends, InTail};
 
+mod used;
+
 use postings::{BGap, DGap, Gap};
+pub use used::Used;
 
 // The fields of a head but its link and its term.
 #[derive(Clone, Copy)]

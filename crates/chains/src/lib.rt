@@ -1,13 +1,13 @@
 // Chains of blocks (document 01, "Blocks"): a cursor that gives one posting after another, and reading a whole chain for damage.
 #![tactic(auto)]
 
-ghost use Rattle.std.specs.Prelude.{◌≡◌, cond, false, ◌&&◌, ℕ, ◌+◌, ◌≤◌, ◌<◌, ltb, eqb, length};
+ghost use Rattle.std.specs.Prelude.{◌≡◌, cond, false, IfSome, ◌&&◌, ℕ, ◌+◌, ◌≤◌, ◌<◌, ltb, eqb, length};
 ghost use Rattle.sums.specs.Adding.{Bounded};
 ghost use Rattle.blocks.specs.Fields.{max_word, block_size, place, link_of, part_of};
 ghost use Rattle.chains.specs.Chains.{part_end, exhausted, read_at, entered_at, next_block, step_at, step_from, at_head, bad_head, chain_of, is_whole, linked, Follows};
 ghost use Rattle.chains.specs.Parts.{passed, moved_to, passed_to, InPart, Known, part_read};
 
-use blocks::Head;
+use blocks::{Head, Used};
 use refusals::Refusal;
 use sums::Sum;
 
@@ -84,12 +84,20 @@ fn read_at(arena: &[u8], reports: u32, c: Cursor, base: u32) -> Result<Option<St
 }
 
 // The block that a block's link leads to, where it is used.
-fn linked(arena: &[u8], used: u32, b: u32) -> Option<u32>
-    requires { (place used ≤ length arena.now) × (b < used) }
-    ensures { result ≡ linked arena.now used b }
+fn linked(used: Used, b: u32) -> Option<u32>
+    requires { b < used.blocks }
+    ensures { result ≡ linked used.entry.arena.now used.entry.blocks b }
 {
-    let next = blocks::link_of(arena, b);
-    (next < used).then_some(next)
+    let next = blocks::link_of(used.arena, b);
+    (next < used.blocks).then_some(next)
+}
+
+// The same of the block that a link led to.
+fn linked_on(used: Used, next: Option<u32>) -> Option<u32>
+    requires { IfSome next (λ b. b < used.blocks) }
+    ensures { IfSome next (λ b. result ≡ linked used.entry.arena.now used.entry.blocks b) }
+{
+    linked(used, next?)
 }
 
 // The start of the next block: none where the link leads to no used one, or there are more blocks than used.
@@ -111,30 +119,30 @@ fn entered(c: Cursor, next: Option<u32>) -> Option<Cursor>
 
 // The first posting of the next block.
 #[tactic(auto, using(crate::proofs::Steps::stepping), unfolding(crate::specs::Chains::next_block, crate::specs::Chains::entered))]
-pub fn next_block(arena: &[u8], used: u32, reports: u32, c: Cursor) -> Result<Option<Step>, Refusal>
-    requires { Follows arena.now used c × (4 ≤ c.end) }
-    ensures { result ≡ next_block arena.now used reports c }
+pub fn next_block(used: Used, reports: u32, c: Cursor) -> Result<Option<Step>, Refusal>
+    requires { Follows used.arena.now used.blocks c × (4 ≤ c.end) }
+    ensures { result ≡ next_block used.entry.arena.now used.entry.blocks reports c }
 {
-    let next = entered(c, linked(arena, used, c.block)).ok_or(Refusal::Damaged)?;
-    read_at(arena, reports, next, c.first)
+    let next = entered(c, linked(used, c.block)).ok_or(Refusal::Damaged)?;
+    read_at(used.arena, reports, next, c.first)
 }
 
 // One posting after another: the one at the cursor with the cursor past it; none at the chain's end.
 #[tactic(auto, using(crate::proofs::Steps::stepping), unfolding(crate::specs::Chains::step_at))]
-pub fn advance(arena: &[u8], used: u32, reports: u32, c: Cursor) -> Result<Option<Step>, Refusal>
-    requires { Follows arena.now used c × (4 ≤ c.end) }
-    ensures { result ≡ step_at arena.now used reports c }
+pub fn advance(used: Used, reports: u32, c: Cursor) -> Result<Option<Step>, Refusal>
+    requires { Follows used.arena.now used.blocks c × (4 ≤ c.end) }
+    ensures { result ≡ step_at used.entry.arena.now used.entry.blocks reports c }
 {
-    if is_exhausted(arena, c) {
+    if is_exhausted(used.arena, c) {
         if c.first == 0 {
             return Err(Refusal::Damaged);
         }
         if c.block == c.tail {
             return Ok(None);
         }
-        return next_block(arena, used, reports, c);
+        return next_block(used, reports, c);
     }
-    read_at(arena, reports, c, c.number)
+    read_at(used.arena, reports, c, c.number)
 }
 
 // ---- several steps within a block's part
@@ -238,7 +246,11 @@ pub fn step_from(
     if place.end < 4 || 64 < place.end {
         return Err(Refusal::Damaged);
     }
-    advance(arena, used, reports, place)
+    let used = Used {
+        arena,
+        blocks: used,
+    };
+    advance(used, reports, place)
 }
 
 // The posting at the reader's place, with the place behind it.
@@ -332,20 +344,21 @@ fn agrees(d: Head, n: u32, number: u32) -> bool
 
 // Reads the chain of head h whole: whether it is sound. Each turn reads a block; `base` is the first number of the block before, 0 at the head. The
 // next block's link is asked for before this one is read: its load misses the caches, and so it overlaps with the reading.
-pub fn is_sound(arena: &[u8], used: u32, reports: u32, h: u32) -> bool
-    requires { (place used ≤ length arena.now) × (h < used) }
-    ensures { result ≡ is_whole (chain_of arena.now used reports h) }
+pub fn is_sound(used: Used, reports: u32, h: u32) -> bool
+    requires { h < used.blocks }
+    ensures { result ≡ is_whole (chain_of used.entry.arena.now used.entry.blocks reports h) }
 {
+    let arena = used.arena;
     let d = blocks::head_of(arena, h);
-    if is_bad_head(d, used, h) {
+    if is_bad_head(d, used.blocks, h) {
         return false;
     }
-    let mut c = at_head(d, used, h);
-    let mut next = linked(arena, used, h);
+    let mut c = at_head(d, used.blocks, h);
+    let mut next = linked(used, h);
     let mut base: u32 = 0;
     let mut n: u32 = 0;
     loop {
-        let after = next.and_then(|b| linked(arena, used, b));
+        let after = linked_on(used, next);
         let Some(r) = read_part(arena, reports, c, base) else {
             return false;
         };

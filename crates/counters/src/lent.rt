@@ -5,6 +5,7 @@ ghost use Rattle.counters.specs.Counters.{memory, wrong_counters};
 ghost use Rattle.refusals.specs.Numbers.{refused_under};
 
 use crate::{Counters, are_wrong};
+use blocks::Used;
 use refusals::Refusal;
 
 // What a call that writes nothing is lent, once refusal 8 is past. What a slice knows of its bytes is not known of a field,
@@ -31,5 +32,15 @@ impl<'a> Lent<'a> {
             table,
             counters,
         })
+    }
+
+    // The blocks in use.
+    pub fn used(self) -> Used<'a>
+        ensures { (result.arena.now ≡ self.entry.arena.now) × (result.blocks ≡ self.entry.counters.used) }
+    {
+        Used {
+            arena: self.arena,
+            blocks: self.counters.used,
+        }
     }
 }

@@ -15,7 +15,7 @@ ghost use Rattle.ingest.specs.Kept.{Kept, mark_tail, marking, KeptRight};
 ghost use Rattle.ingest.specs.Needs.{Room, HeadIs, Below, Held, with_place, needed, Plans, write_one, wrote, refused_with};
 ghost use Rattle.ingest.specs.declared.Place.TheVariants.{New};
 
-use blocks::Head;
+use blocks::{Head, Used};
 use counters::Counters;
 use frames::{Line, Lines, MAX_LINES};
 use lookup::Found;
@@ -76,7 +76,17 @@ struct Arena<'a> {
     ghost room: { Room bytes.now k },
 }
 
-impl Arena<'_> {
+impl<'a> Arena<'a> {
+    // The blocks in use.
+    fn used(self) -> Used<'a>
+        ensures { (result.arena.now ≡ self.entry.bytes.now) × (result.blocks ≡ self.entry.k.used) }
+    {
+        Used {
+            arena: self.bytes,
+            blocks: self.k.used,
+        }
+    }
+
     // Damage of a known term when a report is taken. The tail's first number is read once the tail is known to be used.
     #[tactic(auto, unfolding(crate::specs::Report::damaged_head))]
     fn is_damaged(self, h: u32, d: Head) -> bool
@@ -163,18 +173,17 @@ fn plan_lines(arena: Arena, table: &[u32], lines: Lines, kept: &mut [u32]) -> Re
     ensures kept { let m = memory arena.entry.bytes.now table.now arena.entry.k in
         OnOk result (Kept m lines.entry.frame.now kept.new) }
 {
-    let bytes = arena.bytes;
-    let used = arena.k.used;
+    let used = arena.used();
     let mut lengths = [0u8; MAX_LINES];
     lookup::first_entries(table, lines.hashes, kept);
-    lookup::first_lengths(bytes, used, &kept[..lines.hashes.len()], &mut lengths);
+    lookup::first_lengths(used, &kept[..lines.hashes.len()], &mut lengths);
     let mut plan = Plan {
         terms: 0,
         blocks: 0,
     };
     for (n, line) in lines.iter().enumerate() {
         let entry = kept[n];
-        let found = lookup::find_from(bytes, used, table, line.name, entry, lengths[n]);
+        let found = lookup::find_from(used, table, line.name, entry, lengths[n]);
         kept[n] = lookup::first_hit(found, entry);
         plan = plan.with(arena.place_found(found?, line.count)?);
     }
@@ -272,16 +281,9 @@ fn open_line(
 
 // Looks a line's term up again at its turn. The head that a kept entry leads to still holds the term unless it is marked,
 // so that the search is left out there.
-fn find_again(
-    arena: &[u8],
-    used: u32,
-    table: &[u32],
-    turn: Turn,
-    marks: &[bool; 1024],
-) -> Result<Found, Refusal>
-    requires { (place used ≤ length arena.now)
-        × KeptRight arena.now used table.now turn.line.name.bytes.now turn.kept marks.now }
-    ensures { result ≡ search arena.now used table.now turn.entry.line.name.bytes.now }
+fn find_again(used: Used, table: &[u32], turn: Turn, marks: &[bool; 1024]) -> Result<Found, Refusal>
+    requires { KeptRight used.arena.now used.blocks table.now turn.line.name.bytes.now turn.kept marks.now }
+    ensures { result ≡ search used.entry.arena.now used.entry.blocks table.now turn.entry.line.name.bytes.now }
 {
     if 0 < turn.kept {
         let h = turn.kept - 1;
@@ -289,7 +291,7 @@ fn find_again(
             return Ok(Found::At(h));
         }
     }
-    lookup::find(arena, used, table, turn.line.name)
+    lookup::find(used, table, turn.line.name)
 }
 
 // One line, judged afresh when its turn comes.
@@ -308,7 +310,8 @@ fn write_line(
         let l = line_of turn.entry.line.name.bytes.now turn.entry.line.count in
         marks.new ≡ marking arena.old marks.old (place_of m l) }
 {
-    match find_again(arena, k.used, table, turn, marks) {
+    let read = Arena { bytes: arena, k };
+    match find_again(read.used(), table, turn, marks) {
         Ok(Found::Unknown(slot)) => open_line(arena, table, k, turn.line, slot),
         Ok(Found::At(h)) => append_line(arena, k, h, turn.line.count, marks),
         Err(_) => Err(Stopped { left: k }),

@@ -7,6 +7,7 @@ ghost use Rattle.terms.specs.Terms.{max_term, folded};
 ghost use Rattle.blocks.specs.Fields.{max_word, block_size, place, name_of};
 ghost use Rattle.lookup.specs.Lookup.{slots, search, enter, first_entry, length_behind, first_hit, Entries, Lengths};
 
+use blocks::Used;
 use refusals::Refusal;
 use terms::{Folded, Name};
 
@@ -39,9 +40,8 @@ fn holds_name(arena: &[u8], b: u32, name: Name) -> bool
 // The search for a folded term: from the slot of its hash, one slot on and wrapping, to a match or an empty slot. Refused as damaged where a slot leads
 // to no used block, or all slots are filled and none is a match.
 #[tactic(auto, using(crate::proofs::Search::searching))]
-pub fn find(arena: &[u8], used: u32, table: &[u32], name: Name) -> Result<Found, Refusal>
-    requires { place used ≤ length arena.now }
-    ensures { result ≡ search arena.now used table.now name.entry.bytes.now }
+pub fn find(used: Used, table: &[u32], name: Name) -> Result<Found, Refusal>
+    ensures { result ≡ search used.entry.arena.now used.entry.blocks table.now name.entry.bytes.now }
 {
     let t = slots_of(table);
     if t == 0 {
@@ -53,10 +53,10 @@ pub fn find(arena: &[u8], used: u32, table: &[u32], name: Name) -> Result<Found,
         if e == 0 {
             return Ok(Found::Unknown(slot));
         }
-        if used <= e - 1 {
+        if used.blocks <= e - 1 {
             return Err(Refusal::Damaged);
         }
-        if holds_name(arena, e - 1, name) {
+        if holds_name(used.arena, e - 1, name) {
             return Ok(Found::At(e - 1));
         }
         slot += 1;
@@ -68,12 +68,12 @@ pub fn find(arena: &[u8], used: u32, table: &[u32], name: Name) -> Result<Found,
 }
 
 // The same for a term that is not folded yet.
-pub fn find_term(arena: &[u8], used: u32, table: &[u32], term: &[u8]) -> Result<Found, Refusal>
-    requires { (place used ≤ length arena.now) × (length term.now ≤ max_term) }
-    ensures { result ≡ search arena.now used table.now (folded term.now) }
+pub fn find_term(used: Used, table: &[u32], term: &[u8]) -> Result<Found, Refusal>
+    requires { length term.now ≤ max_term }
+    ensures { result ≡ search used.entry.arena.now used.entry.blocks table.now (folded term.now) }
 {
     let folded = Folded::new(term);
-    find(arena, used, table, folded.name())
+    find(used, table, folded.name())
 }
 
 // The entry of the slot where the search for a hash begins, in a table of t slots.
@@ -102,48 +102,46 @@ pub fn first_entries(table: &[u32], hashes: &[u32], entries: &mut [u32])
 
 // The length of the term in the head that an entry leads to.
 #[tactic(auto, using(std::proofs::lemmas::Bool::Decides::nat_tests), unfolding(crate::specs::Lookup::length_behind))]
-fn length_behind(arena: &[u8], used: u32, e: u32) -> u8
-    requires { place used ≤ length arena.now }
-    ensures { result ≡ length_behind arena.now used e }
+fn length_behind(used: Used, e: u32) -> u8
+    ensures { result ≡ length_behind used.entry.arena.now used.entry.blocks e }
 {
-    if e == 0 || used < e {
+    if e == 0 || used.blocks < e {
         return 0;
     }
-    arena[blocks::place_of(e - 1) + 17]
+    used.arena[blocks::place_of(e - 1) + 17]
 }
 
 // The lengths behind several entries, asked for together in the same way.
-pub fn first_lengths(arena: &[u8], used: u32, entries: &[u32], lengths: &mut [u8])
-    requires { (place used ≤ length arena.now) × (length entries.now ≤ length lengths.old) }
-    ensures { Lengths arena.now used entries.now lengths.new }
+pub fn first_lengths(used: Used, entries: &[u32], lengths: &mut [u8])
+    requires { length entries.now ≤ length lengths.old }
+    ensures { Lengths used.entry.arena.now used.entry.blocks entries.now lengths.new }
 {
     for (i, entry) in entries.iter().enumerate() {
-        lengths[i] = length_behind(arena, used, *entry);
+        lengths[i] = length_behind(used, *entry);
     }
 }
 
 // The search for a folded term whose first entry, and the length behind it, are known.
 #[tactic(auto, using(std::proofs::lemmas::Bool::Decides::nat_tests), unfolding(crate::specs::Lookup::length_behind))]
 pub fn find_from(
-    arena: &[u8],
-    used: u32,
+    used: Used,
     table: &[u32],
     name: Name,
     entry: u32,
     stored: u8,
 ) -> Result<Found, Refusal>
-    requires { (place used ≤ length arena.now) × (0 < length name.bytes.now)
-        × (entry ≡ first_entry table.now name.hash) × (stored ≡ length_behind arena.now used entry) }
-    ensures { result ≡ search arena.now used table.now name.entry.bytes.now }
+    requires { (0 < length name.bytes.now) × (entry ≡ first_entry table.now name.hash)
+        × (stored ≡ length_behind used.arena.now used.blocks entry) }
+    ensures { result ≡ search used.entry.arena.now used.entry.blocks table.now name.entry.bytes.now }
 {
     let n = name.bytes.len();
     if usize::from(stored) == n {
         let from = blocks::place_of(entry - 1) + 18;
-        if basics::same_bytes(&arena[from..from + n], name.bytes) {
+        if basics::same_bytes(&used.arena[from..from + n], name.bytes) {
             return Ok(Found::At(entry - 1));
         }
     }
-    find(arena, used, table, name)
+    find(used, table, name)
 }
 
 // The first entry of a search that ended with a match there; 0 of any other.

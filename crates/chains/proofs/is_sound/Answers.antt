@@ -9,10 +9,10 @@ use Rattle.chains.proofs.is_sound.Goals.{Else-r-c}
 
 -- the length of the term is a byte
 pub is_bad_head-requires : goal.is_bad_head-requires
-is_bad_head-requires c = head-short _ _ c.head_of-d.ensures (λ i. (c.type_inv.arena i).fits)
+is_bad_head-requires c = head-short _ _ c.head_of-d.ensures c.args.used.fits
 
 pub at_head-c-requires : goal.at_head-c-requires
-at_head-c-requires c = (omega arith, head-short _ _ c.head_of-d.ensures (λ i. (c.type_inv.arena i).fits))
+at_head-c-requires c = (omega arith, head-short _ _ c.head_of-d.ensures c.args.used.fits)
 
 pub returns-then-is_bad_head : goal.returns-then-is_bad_head
 returns-then-is_bad_head c = sym (unsound _ _ _ _ c.head_of-d.ensures (sym c.is_bad_head.ensures ∙ c.if-is_bad_head.true))
@@ -22,7 +22,7 @@ unfolding at_head
 loop-r-init c = record {
   entering =
       rw c.at_head-c.ensures
-      (start _ _ _ _ c.head_of-d.ensures c.requires.0 c.requires.1 (sym c.is_bad_head.ensures ∙ c.if-is_bad_head.false));
+      (start _ _ _ _ c.head_of-d.ensures c.args.used.inside c.requires (sym c.is_bad_head.ensures ∙ c.if-is_bad_head.false));
   next_is = rw c.at_head-c.ensures c.linked-next.ensures;
 }
 
@@ -34,7 +34,7 @@ returns-then-r-c c = sym (not-begun c.loop-r.invariant.entering (sym c.in-Some.i
 
 -- a part was read
 read : (c : Else-r-c)
-    → Read c.args.arena.now c.args.used c.args.reports c.args.h c.head_of-d.result (after c.loop-r.c c.in-Some.r) (c.loop-r.n + (1 + c.in-Some.r.rest.postings))
+    → Read c.args.used.arena.now c.args.used.blocks c.args.reports c.args.h c.head_of-d.result (after c.loop-r.c c.in-Some.r) (c.loop-r.n + (1 + c.in-Some.r.rest.postings))
 read c = block_read c.loop-r.invariant.entering (sym c.in-Some.is ∙ c.read_part.ensures) c.if-r-c.false
 
 pub overflow_add-n : goal.overflow_add-n

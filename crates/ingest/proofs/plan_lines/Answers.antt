@@ -6,7 +6,6 @@ use Rattle.std.proofs.lemmas.Result.{err_from_is_err_and}
 use Rattle.std.proofs.lemmas.List.{length_push, length-take, length-take-le, get_or-take}
 use Rattle.terms.specs.Terms.{fnv1a}
 use Rattle.frames.proofs.Laws.{sound-some}
-use Rattle.blocks.proofs.Capacity.{used-inside}
 use Rattle.lookup.specs.Lookup.{search as sought, first_entry, length_behind, first_hit}
 use Rattle.counters.specs.Counters.{memory}
 use Rattle.ingest.proofs.Places.{found_below, read-place, read_refused}
@@ -19,10 +18,8 @@ pub first_entries-requires : goal.first_entries-requires
 first_entries-requires c = omega (arith, c.args.lines.few, c.requires)
 
 pub first_lengths-requires : goal.first_lengths-requires
-first_lengths-requires c = (
-  used-inside c.args.arena.bytes.now c.args.arena.k.used c.args.arena.room.inside,
-  omega (arith, c.args.lines.few, length-take (length c.args.lines.hashes.now) c.first_entries.new.entries),
-)
+first_lengths-requires c =
+    omega (arith, c.args.lines.few, length-take (length c.args.lines.hashes.now) c.first_entries.new.entries)
 
 pub loop-n-init : goal.loop-n-init
 loop-n-init c =
@@ -52,11 +49,10 @@ find_from-found-requires c =
     let n = c.loop-n.n in
     let h = inside t.stands t.counted in
     let left : get_or c.loop-n.kept n 0 ≡ get_or c.first_entries.new.entries n 0 = c.loop-n.invariant.keeps.left n (omega arith) in (
-      used-inside a.arena.bytes.now a.arena.k.used a.arena.room.inside,
       rw t.name (sound-some t.stands.sound h),
       left ∙ c.first_entries.ensures.each n t.enough ∙ ap (first_entry a.table.now) t.nth,
       c.first_lengths.ensures.each n (omega (arith, t.enough, length-take-le (length a.lines.hashes.now) c.first_entries.new.entries (omega (arith, a.lines.few, c.requires))))
-          ∙ ap (length_behind a.arena.bytes.now a.arena.k.used) (get_or-take _ _ n 0 t.enough ∙ sym left),
+          ∙ ap (length_behind c.used-used.result.arena.now c.used-used.result.blocks) (get_or-take _ _ n 0 t.enough ∙ sym left),
     )
 
 pub bounds-kept-n-in-loop-n : goal.bounds-kept-n-in-loop-n
@@ -70,19 +66,19 @@ returns-in_err-found-clause-plan c =
     let m = memory c.args.arena.bytes.now c.args.table.now c.args.arena.k in
     let p = err_from_is_err_and c.from_residual.result c.from_residual.ensures.1 in
     rw (p.1, p.2)
-    (planned_stop c.loop-n.invariant.plan _ (lines_more t.stands t.counted) (read_refused c.args.lines.frame.now _ t.name m (sym c.find_from-found.ensures ∙ c.in_err-found.was)))
+    (planned_stop c.loop-n.invariant.plan _ (lines_more t.stands t.counted) (read_refused c.args.lines.frame.now _ t.name m (sym (rw (c.used-used.ensures.0, c.used-used.ensures.1) at c.find_from-found.ensures) ∙ c.in_err-found.was)))
 
 pub place_found-requires : goal.place_found-requires
 place_found-requires c =
     let a = c.args in
-    found_below a.arena.bytes.now a.arena.k.used a.table.now c.in-Some.line.name.bytes.now c.in_ok-found.field-0 (sym c.find_from-found.ensures ∙ c.in_ok-found.was)
+    found_below a.arena.bytes.now a.arena.k.used a.table.now c.in-Some.line.name.bytes.now c.in_ok-found.field-0 (sym (rw (c.used-used.ensures.0, c.used-used.ensures.1) at c.find_from-found.ensures) ∙ c.in_ok-found.was)
 
 pub returns-in_err-place_found-clause-plan : goal.returns-in_err-place_found-clause-plan
 returns-in_err-place_found-clause-plan c =
     let t = line_turn c.args.lines c.loop-n.invariant.all _ _ c.loop-n.yielded_by _ c.next.new.self c.next.ensures.steps c.loop-n.invariant.counted c.in-Some.is in
     let m = memory c.args.arena.bytes.now c.args.table.now c.args.arena.k in
     let p = err_from_is_err_and c.from_residual-in_err-place_found.result c.from_residual-in_err-place_found.ensures.1 in
-    let place = read-place c.args.lines.frame.now _ t.name t.count m (sym c.find_from-found.ensures ∙ c.in_ok-found.was) in
+    let place = read-place c.args.lines.frame.now _ t.name t.count m (sym (rw (c.used-used.ensures.0, c.used-used.ensures.1) at c.find_from-found.ensures) ∙ c.in_ok-found.was) in
     rw (p.1, p.2)
     (planned_stop c.loop-n.invariant.plan _ (lines_more t.stands t.counted) (place ∙ sym c.place_found.ensures ∙ c.in_err-place_found.was))
 
@@ -99,12 +95,12 @@ loop-n-preserved c =
     let n = c.loop-n.n in
     let v = c.loop-n.invariant in
     let x = c.in-Some.line in
-    let place = read-place c.args.lines.frame.now _ t.name t.count m (sym c.find_from-found.ensures ∙ c.in_ok-found.was) in
+    let place = read-place c.args.lines.frame.now _ t.name t.count m (sym (rw (c.used-used.ensures.0, c.used-used.ensures.1) at c.find_from-found.ensures) ∙ c.in_ok-found.was) in
     let left : get_or c.loop-n.kept n 0 ≡ get_or c.first_entries.new.entries n 0 = v.keeps.left n (omega arith) in
     let entry : get_or c.loop-n.kept n 0 ≡ first_entry c.args.table.now (fnv1a x.name.bytes.now) =
     left ∙ c.first_entries.ensures.each n t.enough ∙ ap (first_entry c.args.table.now) (t.nth ∙ x.name.hashed) in
     let hit : c.first_hit.result ≡ first_hit (sought c.args.arena.bytes.now c.args.arena.k.used c.args.table.now x.name.bytes.now) (first_entry c.args.table.now (fnv1a x.name.bytes.now)) =
-    rw (← c.find_from-found.ensures, ← entry) c.first_hit.ensures in
+    rw (← (rw (c.used-used.ensures.0, c.used-used.ensures.1) at c.find_from-found.ensures), ← entry) c.first_hit.ensures in
     record {
       all = v.all;
       counted = rw (length_push, v.counted);

@@ -2,7 +2,6 @@
 use mathlib.Core.Path.{◌≡◌, sym}
 use Prim.Native.Nat.{◌+◌}
 use Rattle.std.specs.Prelude.{Ok, Err}
-use Rattle.blocks.proofs.Capacity.{used-inside}
 use Rattle.lookup.specs.declared.Found.TheVariants.{At, Unknown}
 use Rattle.lookup.specs.Lookup.{search as sought}
 use Rattle.lookup.proofs.Search.{search-at, search_unknown}
@@ -13,8 +12,7 @@ use Rattle.ingest.proofs.Writing.{one-damaged, known_place, new_place, refused_p
 use Rattle.ingest.proofs.write_line.Goals as goal
 
 pub find_again-requires : goal.find_again-requires
-find_again-requires c =
-    (used-inside c.args.arena.now c.args.k.used c.requires.0.room.inside, c.requires.1)
+find_again-requires c = rw (c.used.ensures.0, c.used.ensures.1) c.requires.1
 
 pub open_line-requires : goal.open_line-requires
 open_line-requires c =

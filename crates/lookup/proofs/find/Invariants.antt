@@ -6,5 +6,5 @@ use Rattle.lookup.proofs.find.Given as goal
 abbrev pub invariant-loop : goal.invariant-loop
 invariant-loop l = record {
   inside : l.slot < l.t;
-  ahead : search l.arena l.used l.table l.name.bytes.now ≡ search_from (l.t - l.counter) l.arena l.used l.table l.name.bytes.now l.slot;
+  ahead : search l.used.arena.now l.used.blocks l.table l.name.bytes.now ≡ search_from (l.t - l.counter) l.used.arena.now l.used.blocks l.table l.name.bytes.now l.slot;
 }

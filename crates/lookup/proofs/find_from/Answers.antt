@@ -12,6 +12,6 @@ unfolding length_behind
 returns-then-same_bytes c =
     let a = c.args in
     let low : 0 < a.entry = grind (arith, nat_tests) in
-    let high : a.entry ≤ a.used = grind (arith, nat_tests) in
-    let named : name_of a.arena.now (a.entry - 1) ≡ a.name.bytes.now = grind (arith, nat_tests, own-length, same_eq) in
-    sym (search-first _ _ _ _ a.entry (c.requires.2 ∙ ap (first_entry a.table.now) a.name.hashed) low high named)
+    let high : a.entry ≤ a.used.blocks = grind (arith, nat_tests) in
+    let named : name_of a.used.arena.now (a.entry - 1) ≡ a.name.bytes.now = grind (arith, nat_tests, own-length, same_eq) in
+    sym (search-first _ _ _ _ a.entry (c.requires.1 ∙ ap (first_entry a.table.now) a.name.hashed) low high named)

@@ -3,4 +3,4 @@ use Rattle.lookup.specs.Lookup.{length_behind}
 use Rattle.lookup.proofs.first_lengths.Given as goal
 
 abbrev pub invariant-loop-i : goal.invariant-loop-i
-invariant-loop-i l = (k : ℕ) → k < l.i → get_or l.lengths k 0 ≡ length_behind l.arena l.used (get_or l.entries k 0)
+invariant-loop-i l = (k : ℕ) → k < l.i → get_or l.lengths k 0 ≡ length_behind l.used.arena.now l.used.blocks (get_or l.entries k 0)
