@@ -5,6 +5,7 @@
 ghost use Rattle.std.specs.Prelude.{◌≡◌, ◌+◌, ◌-◌, ◌*◌, ◌≤◌, ◌<◌, [], ◌∷◌, Some, None, length, get_or, take, drop};
 ghost use Rattle.frames.specs.Frames.{body_length};
 ghost use Rattle.counters.specs.Counters.{memory};
+ghost use Rattle.refusals.specs.Numbers.{number_of};
 ghost use Rattle.desk.specs.Text.{
   decimal,
   numbered,
@@ -22,6 +23,7 @@ ghost use Rattle.desk.specs.Claims.{LastRefused, TellsLedger};
 use counters::Counters;
 use frames::Kind;
 use ingest::ReportAnswer;
+use refusals::Refusal;
 use std::io::{self, Read};
 
 // The counters after a frame, and where its line ends in the output.
@@ -235,13 +237,13 @@ fn answer_all(
 }
 
 // The refusal of a kind that no call has: reading the frame as a report finds it.
-fn other_refusal(frame: &[u8]) -> u8
+fn other_refusal(frame: &[u8]) -> Refusal
     requires { kind_of frame.now ≡ None }
-    ensures { result ≡ other_refusal frame.now }
+    ensures { number_of result ≡ other_refusal frame.now }
 {
     match frames::check_report(frame) {
-        Err(refusal) => u8::from(refusal),
-        Ok(_) => 3,
+        Err(refusal) => refusal,
+        Ok(_) => Refusal::WrongKind,
     }
 }
 
@@ -268,10 +270,13 @@ fn answer_frame(
             counters: k,
             end: answer_all(arena, table, k, frame, out, at),
         },
-        None => Answer {
-            counters: k,
-            end: put_numbered(out, at, b'E', u32::from(other_refusal(frame))),
-        },
+        None => {
+            let refusal = u8::from(other_refusal(frame));
+            Answer {
+                counters: k,
+                end: put_numbered(out, at, b'E', u32::from(refusal)),
+            }
+        }
     }
 }
 

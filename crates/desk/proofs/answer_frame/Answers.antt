@@ -20,4 +20,4 @@ pub returns-in-None : goal.returns-in-None
 unfolding answered answered_as
 returns-in-None c =
     let e : kind_of c.args.frame.now ≡ None = cc in
-    rw (e, sym c.other_refusal.ensures, sym c.from.ensures) (record { puts = puts_as c.put_numbered.ensures refl (omega arith); leaves = refl })
+    rw (e, sym c.other_refusal.ensures, sym c.from-refusal.ensures, sym c.from.ensures) (record { puts = puts_as c.put_numbered.ensures refl (omega arith); leaves = refl })
