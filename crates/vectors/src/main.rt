@@ -11,8 +11,8 @@ use frames::{Cursors, Kind, Lines, MAX_LINES, Query};
 use ingest::ReportAnswer;
 use query::ListAnswer;
 use refusals::Refusal;
-use terms::Folded;
 use std::io::{self, Read};
+use terms::Folded;
 
 fn print(rt: &impl Print, text: &str) -> io::Result<()> {
     print!(rt; "{text}")
