@@ -5,6 +5,7 @@ use mathlib.Core.Path.{◌≡◌, refl, sym, ap, ap₂, subst, ◌∙◌}
 use mathlib.Core.Bool.{true, false}
 use mathlib.Core.List.{List}
 use native.Mathlib.Omega.{arith}
+use native.Mathlib.Nat.{add_assoc}
 use lib.ListN.{length, get_or, drop, drop_of_length-le, drop_of_length-le, set, length-set}
 use lib.Seq.{get_or-set_same, get_or-set_other}
 use Rattle.std.specs.Prelude.{sum}
@@ -13,7 +14,7 @@ use Rattle.basics.proofs.Cases.{by-lt, by-eq}
 use Rattle.postings.proofs.Codes.{at_one, at_pair}
 use Rattle.sums.specs.declared.Sum.{Sum}
 use Rattle.sums.specs.Adding.{add_from, added_to}
-use Rattle.sums.specs.Rows.{is_second, gap_at, mark_at, sum_from, lane, Lane}
+use Rattle.sums.specs.Rows.{is_second, gap_of, mark_of, gap_at, mark_at, sum_from, lane, Lane}
 use Rattle.sums.proofs.Adding.{Adds, at_stop, add-on, add-ends}
 use Rattle.sums.proofs.Bytes.{second_yes, second-behind, second_past, second-not, gap-second, gap-one, gap_pair, Fit, mark_start, mark_second, mark_fits}
 
@@ -68,6 +69,20 @@ filled_more f {xs} {i} y w h e = record {
       (λ q. ap (λ (x : ℕ). get_or (set xs i y) x 0) q ∙ get_or-set_same xs i y 0 (omega (arith, w.places)) ∙ e ∙ sym (ap (lane f) q))
       (λ n. get_or-set_other xs i j y 0 n ∙ w.each j (omega (arith, n)));
 }
+
+-- the lane at place j, read byte by byte
+module _ (s : List ℕ) (j : ℕ) where
+  pub gap_lane : gap_of (get_or s (j + 16) 0) (get_or s (j + 15) 0) (get_or s (j + 14) 0)
+      + gap_of (get_or s (j + 32) 0) (get_or s (j + 31) 0) (get_or s (j + 30) 0)
+      + gap_of (get_or s (j + 48) 0) (get_or s (j + 47) 0) (get_or s (j + 46) 0) ≡ lane (gap_at s) j
+  unfolding lane gap_at
+  gap_lane = simp add_assoc
+
+  pub mark_lane : mark_of (get_or s (j + 16) 0) (get_or s (j + 15) 0) (get_or s (j + 14) 0)
+      + mark_of (get_or s (j + 32) 0) (get_or s (j + 31) 0) (get_or s (j + 30) 0)
+      + mark_of (get_or s (j + 48) 0) (get_or s (j + 47) 0) (get_or s (j + 46) 0) ≡ lane (mark_at s) j
+  unfolding lane mark_at
+  mark_lane = simp add_assoc
 
 -- the lanes add up to the rows
 pub lanes_total : (f : ℕ → ℕ) (xs : List ℕ) → Lane f xs → sum xs ≡ sum_from f 14 48

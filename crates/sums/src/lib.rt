@@ -65,25 +65,6 @@ fn mark_of(b: u8, q: u8, p: u8) -> u8
     if q % 4 == 0 && b % 4 == 0 { 64 } else { 1 }
 }
 
-// The same for the byte two behind offset i.
-#[tactic(auto, using(crate::proofs::Bytes::gap_le), unfolding(crate::specs::Rows::gap_at))]
-fn gap_at(part: &[u8], i: usize) -> u8
-    requires { i + 2 < length part.now }
-    ensures is { result ≡ gap_at part.now i }
-    ensures small { result ≤ 64 }
-{
-    gap_of(part[i + 2], part[i + 1], part[i])
-}
-
-#[tactic(auto, using(crate::proofs::Bytes::mark_le), unfolding(crate::specs::Rows::mark_at))]
-fn mark_at(part: &[u8], i: usize) -> u8
-    requires { i + 2 < length part.now }
-    ensures is { result ≡ mark_at part.now i }
-    ensures small { result ≤ 64 }
-{
-    mark_of(part[i + 2], part[i + 1], part[i])
-}
-
 // The bytes at one place of the three rows together, for each of the sixteen places.
 #[derive(Clone, Copy)]
 pub struct Lanes {
@@ -93,6 +74,7 @@ pub struct Lanes {
 
 // A turn is the same for all places and takes nothing over from the turn before: so the compiler makes one of all
 // sixteen.
+#[tactic(auto, using(crate::proofs::Bytes::gap_le, crate::proofs::Bytes::mark_le))]
 fn lanes_of(part: &[u8]) -> Lanes
     requires { length part.now ≡ 64 }
     ensures { Lane (gap_at part.now) result.gaps × Lane (mark_at part.now) result.marks }
@@ -100,8 +82,17 @@ fn lanes_of(part: &[u8]) -> Lanes
     let mut gaps = [0u8; 16];
     let mut marks = [0u8; 16];
     for i in 0..16 {
-        gaps[i] = gap_at(part, i + 14) + gap_at(part, i + 30) + gap_at(part, i + 46);
-        marks[i] = mark_at(part, i + 14) + mark_at(part, i + 30) + mark_at(part, i + 46);
+        let p = part[i + 14];
+        let q = part[i + 15];
+        let b = part[i + 16];
+        let p2 = part[i + 30];
+        let q2 = part[i + 31];
+        let b2 = part[i + 32];
+        let p3 = part[i + 46];
+        let q3 = part[i + 47];
+        let b3 = part[i + 48];
+        gaps[i] = gap_of(b, q, p) + gap_of(b2, q2, p2) + gap_of(b3, q3, p3);
+        marks[i] = mark_of(b, q, p) + mark_of(b2, q2, p2) + mark_of(b3, q3, p3);
     }
     Lanes { gaps, marks }
 }
