@@ -104,14 +104,29 @@ fn put_changing(arena: &mut [u8], h: u32, d: Head)
     put_growing(arena, h, d);
 }
 
-// Writes a posting at an offset of block b, and returns the offset past it. The type of its gap says from which report it counts: a block's first
-// posting takes a b-gap, and only that.
+// Writes a posting at an offset of block b, and returns the offset past it.
 fn put_gap<G: Gap>(arena: &mut [u8], b: u32, offset: usize, gap: G, count: u32) -> usize
     requires { (0 < G.distance gap) × (offset + length (code (G.distance gap) count) ≤ block_size) × (place b + block_size ≤ length arena.old) }
     ensures { (result ≡ offset + length (code (G.distance gap) count)) × (arena.new ≡ sets arena.old (place b + offset) (code (G.distance gap) count)) }
 {
     let at = place_of(b);
     postings::put_posting(arena, at + offset, gap.steps(), count) - at
+}
+
+// Writes the first posting of a block, whose postings begin at `start`. The only place that takes a b-gap.
+fn put_first(arena: &mut [u8], b: u32, start: usize, gap: BGap, count: u32) -> usize
+    requires { (0 < gap.0) × (start + length (code gap.0 count) ≤ block_size) × (place b + block_size ≤ length arena.old) }
+    ensures { (result ≡ start + length (code gap.0 count)) × (arena.new ≡ sets arena.old (place b + start) (code gap.0 count)) }
+{
+    put_gap(arena, b, start, gap, count)
+}
+
+// Writes a posting behind others, at the write offset.
+fn put_next(arena: &mut [u8], b: u32, end: usize, gap: DGap, count: u32) -> usize
+    requires { (0 < gap.0) × (end + length (code gap.0 count) ≤ block_size) × (place b + block_size ≤ length arena.old) }
+    ensures { (result ≡ end + length (code gap.0 count)) × (arena.new ≡ sets arena.old (place b + end) (code gap.0 count)) }
+{
+    put_gap(arena, b, end, gap, count)
 }
 
 // A new term: its head at block b, with its first posting. A head's first gap counts from 0.
@@ -125,7 +140,7 @@ pub fn open_head(arena: &mut [u8], b: u32, name: &[u8], number: u32, count: u32)
     basics::write_word(arena, at, number);
     arena[at + 17] = length as u8;
     basics::write_bytes(arena, at + 18, name);
-    let end = put_gap(arena, b, 18 + length, BGap::between(0, number), count);
+    let end = put_first(arena, b, 18 + length, BGap::between(0, number), count);
     let d = Head {
         tail: b,
         last: number,
@@ -151,7 +166,7 @@ pub fn add_to(arena: &mut [u8], h: u32, d: Head, number: u32, count: u32)
     requires { Appends arena.old h d number × InTail arena.old h d × (fits d number count ≡ true) }
     ensures { arena.new ≡ add_to arena.old h d number count }
 {
-    let end = put_gap(arena, d.tail, d.end, DGap::between(d.last, number), count);
+    let end = put_next(arena, d.tail, d.end, DGap::between(d.last, number), count);
     let grown = Head {
         last: number,
         postings: d.postings + 1,
@@ -170,7 +185,7 @@ pub fn join_to(arena: &mut [u8], h: u32, d: Head, b: u32, number: u32, count: u3
     basics::write_word(arena, place_of(d.tail), b);
     clear(arena, b);
     basics::write_word(arena, place_of(b), number);
-    let end = put_gap(arena, b, 4, gap, count);
+    let end = put_first(arena, b, 4, gap, count);
     let grown = Head {
         tail: b,
         last: number,

@@ -73,7 +73,7 @@ pub struct Lanes {
 }
 
 // A turn is the same for all places and takes nothing over from the turn before: so the compiler makes one of all
-// sixteen.
+// sixteen. With the three bytes of a row read in a function of their own it does not.
 #[tactic(auto, using(crate::proofs::Bytes::gap_le, crate::proofs::Bytes::mark_le))]
 fn lanes_of(part: &[u8]) -> Lanes
     requires { length part.now ≡ 64 }

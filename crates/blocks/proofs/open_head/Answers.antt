@@ -5,8 +5,8 @@ use Rattle.blocks.proofs.Writes.{open_stored}
 use Rattle.blocks.proofs.open_head.Goals as goal
 
 -- 18 bytes, a name of at most 36 and a posting of at most 10 fit the block
-pub put_gap-end-requires : goal.put_gap-end-requires
-put_gap-end-requires c = grind (arith, length-code_le, length-set)
+pub put_first-end-requires : goal.put_first-end-requires
+put_first-end-requires c = grind (arith, length-code_le, length-set)
 
 pub put_changing-requires : goal.put_changing-requires
 put_changing-requires c = grind (arith, length-code_le, length-set)
@@ -16,5 +16,5 @@ returns c =
     let a = c.args in
     let short = length-code_le a.number a.count (omega arith) (omega arith) in
     let first : c.between.result.0 ≡ a.number = omega (arith, c.between.ensures) in
-    rw (c.put_changing.ensures, c.put_gap-end.ensures.1, c.put_gap-end.ensures.0, c.write_bytes.ensures, c.write_word.ensures, c.clear.ensures, c.place_of-at.ensures, first)
+    rw (c.put_changing.ensures, c.put_first-end.ensures.1, c.put_first-end.ensures.0, c.write_bytes.ensures, c.write_word.ensures, c.clear.ensures, c.place_of-at.ensures, first)
     (open_stored a.arena.now a.b a.name.now a.number a.count (omega arith))
