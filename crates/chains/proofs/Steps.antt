@@ -47,13 +47,6 @@ part_is a b at to start e p q =
     let k : place b + to - (place b + at) ≡ to - at = omega arith in
     rw (p, q, k)
 
--- the whole part that a slice from `start` up to `start + e` is
-pub whole_part : (a : List ℕ) (b to start e : ℕ) → start ≡ place b → e ≡ to → take (start + e - start) (drop start a) ≡ part_of a b 0 to
-unfolding part_of
-whole_part a b to start e p q =
-    let k : place b + to - place b ≡ to - 0 = omega arith in
-    rw (p, q, k, add-zero)
-
 -- nothing is decoded from the part's end on, and what is decoded ends in the part
 pub decoded_past : (part : List ℕ) (at : ℕ) → length part ≤ at → decoded (drop at part) ≡ None
 decoded_past part at h = ap decoded (drop_of_length-le part h) ∙ decoded-nil
@@ -180,7 +173,7 @@ module _ (a : List ℕ) (used reports : ℕ) (c : Cursor) where
   step_here e = rw e
 
 -- what the steps in a part need of its bounds and bytes
-pub ruleset in_part = (part_end_le, part_is, whole_part, decoded_past, decoded_ends, length-take)
+pub ruleset in_part = (part_end_le, part_is, decoded_past, decoded_ends, length-take)
 
 -- and what those from one part to the next need
 pub ruleset stepping = (part_end_le, part_end_ge, not-exhausted)

@@ -1,19 +1,22 @@
 // Chains of blocks (document 01, "Blocks"): a cursor that gives one posting after another, and reading a whole chain for damage.
 #![tactic(auto)]
 
-ghost use Rattle.std.specs.Prelude.{◌≡◌, cond, false, IfSome, ◌&&◌, ℕ, ◌+◌, ◌≤◌, ◌<◌, ltb, eqb, length};
+ghost use Rattle.std.specs.Prelude.{◌≡◌, cond, false, IfSome, ◌&&◌, ℕ, ◌+◌, ◌-◌, ◌≤◌, ◌<◌, ltb, eqb, length};
 ghost use Rattle.sums.specs.Adding.{Bounded};
 ghost use Rattle.blocks.specs.Fields.{max_word, block_size, place, link_of, part_of};
 ghost use Rattle.chains.specs.Chains.{part_end, exhausted, read_at, entered_at, next_block, step_at, step_from, at_head, bad_head, chain_of, is_whole, linked, Follows};
 ghost use Rattle.chains.specs.Parts.{passed, moved_to, passed_to, InPart, Known, part_read};
 
+mod part;
+
 use blocks::{Head, Used};
+pub use part::{Part, Posting};
 use refusals::Refusal;
 use sums::Sum;
 
 // A place in a chain: the block and the offset in it, the last number read, the block's first number (0 before its first posting), how many more
 // blocks there can be; and from the head, the tail block and the write offset there.
-#[derive(Clone, Copy)]
+#[derive(Clone, Copy, Default)]
 pub struct Cursor {
     pub tail: u32,
     pub end: usize,
@@ -52,16 +55,24 @@ pub fn part_end(c: Cursor) -> usize
     if c.block == c.tail { c.end } else { 64 }
 }
 
+// The bytes of the cursor's part from an offset on.
+#[tactic(auto, using(crate::proofs::Steps::in_part))]
+fn part_bytes<'a>(arena: &'a [u8], c: Cursor, from: usize) -> &'a [u8]
+    requires { (place c.block + block_size ≤ length arena.now) × (c.end ≤ block_size) × (from ≤ part_end c c.block) }
+    ensures is { result.now ≡ part_of arena.now c.block from (part_end c c.block) }
+    ensures length { length result.now ≡ part_end c c.block - from }
+{
+    let start = blocks::place_of(c.block);
+    &arena[start + from..start + part_end(c)]
+}
+
 // The posting at the cursor, its gap counted from `base`.
 #[tactic(auto, using(crate::proofs::Steps::in_part), unfolding(crate::specs::Chains::read_at, crate::specs::Chains::given))]
 fn read_at(arena: &[u8], reports: u32, c: Cursor, base: u32) -> Result<Option<Step>, Refusal>
     requires { (place c.block + 64 ≤ length arena.now) × (c.end ≤ 64) × (c.at ≤ part_end c c.block) }
     ensures { result ≡ read_at arena.now reports c base }
 {
-    let start = blocks::place_of(c.block);
-    let from = start + c.at;
-    let to = start + part_end(c);
-    let Some(d) = postings::decode(&arena[from..to]) else {
+    let Some(d) = postings::decode(part_bytes(arena, c, c.at)) else {
         return Err(Refusal::Damaged);
     };
     if reports < base || reports - base < d.gap {
@@ -213,9 +224,7 @@ pub fn pass_part(arena: &[u8], c: Cursor, to: u32) -> Cursor
     requires { InPart arena.now max_word c × Known arena.now max_word c }
     ensures { (reports : ℕ) → Known arena.now reports c → result ≡ passed_to arena.now reports c to }
 {
-    let start = blocks::place_of(c.block);
-    let end = start + part_end(c);
-    let p = pass::<false>(&arena[start..end], u32::MAX, c.at, c.number, to);
+    let p = pass::<false>(part_bytes(arena, c, 0), u32::MAX, c.at, c.number, to);
     moved(c, p.at, p.number)
 }
 
@@ -320,9 +329,7 @@ fn read_part(arena: &[u8], reports: u32, c: Cursor, base: u32) -> Option<PartRea
     requires { (place c.block + 64 ≤ length arena.now) × (c.end ≤ block_size) × (base ≤ reports) }
     ensures { result ≡ part_read (part_of arena.now c.block 0 (part_end c c.block)) reports c.at base }
 {
-    let start = blocks::place_of(c.block);
-    let end = start + part_end(c);
-    let part = &arena[start..end];
+    let part = part_bytes(arena, c, 0);
     if part.len() <= c.at {
         return None;
     }

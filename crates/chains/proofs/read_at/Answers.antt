@@ -1,5 +1,5 @@
 -- A posting that is decoded lies in the part.
-use Rattle.std.proofs.Common.{sym, ◌∙◌, arith, length-take}
+use Rattle.std.proofs.Common.{sym, ◌∙◌, arith}
 use Rattle.postings.proofs.Laws.{decoded-within}
 use Rattle.chains.proofs.Steps.{part_end_le}
 use Rattle.chains.proofs.read_at.Goals as goal
@@ -7,5 +7,4 @@ use Rattle.chains.proofs.read_at.Goals as goal
 pub overflow_add-result : goal.overflow_add-result
 overflow_add-result c =
     let w = decoded-within _ (sym c.decode.ensures ∙ c.in-Some.is) in
-    let e = part_end_le c.args.c c.args.c.block c.requires.1 in
-    omega (arith, simp length-take at w.1, e)
+    omega (arith, w.1, c.part_bytes.ensures.length, part_end_le c.args.c c.args.c.block c.requires.1)
