@@ -6,3 +6,4 @@ pub mod Parts
 pub mod Laws
 pub mod Skipping
 pub mod Counting
+pub mod Going

@@ -26,13 +26,14 @@ pub struct Part<'a> {
 impl<'a> Part<'a> {
     ghost use Rattle.std.specs.Prelude.{ℕ, ◌≡◌};
     ghost use Rattle.chains.specs.Parts.{InPart, Known};
-    ghost use Rattle.chains.specs.Going.{PartOf, Goes};
+    ghost use Rattle.chains.specs.Going.{Walks, Goes};
 
     // The part of the cursor's block, from the cursor on.
     #[tactic(auto, using(crate::proofs::Steps::part_end_le))]
     pub fn new(arena: &'a [u8], c: Cursor) -> Self
         requires { InPart arena.now max_word c × Known arena.now max_word c }
-        ensures { (result.place ≡ c) × PartOf arena.entry.now result }
+        ensures place { result.place ≡ c }
+        ensures walks { (reports : ℕ) → InPart arena.entry.now reports c → Known arena.entry.now reports c → Walks arena.entry.now reports result }
     {
         Part {
             bytes: part_bytes(arena, c, 0),
