@@ -4,7 +4,6 @@ pub mod Reading
 pub mod Calls
 pub mod One
 pub mod Seeking
-pub mod Walking
 pub mod Windowed
 pub mod Gathering
 pub mod Asking
