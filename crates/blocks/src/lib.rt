@@ -105,9 +105,15 @@ fn put_changing(arena: &mut [u8], h: u32, d: Head)
 }
 
 // Writes a posting at an offset of block b, and returns the offset past it.
-fn put_gap<G: Gap>(arena: &mut [u8], b: u32, offset: usize, gap: G, count: u32) -> usize
-    requires { (0 < G.distance gap) × (offset + length (code (G.distance gap) count) ≤ block_size) × (place b + block_size ≤ length arena.old) }
-    ensures { (result ≡ offset + length (code (G.distance gap) count)) × (arena.new ≡ sets arena.old (place b + offset) (code (G.distance gap) count)) }
+fn put_gap<const BLOCK: bool>(
+    arena: &mut [u8],
+    b: u32,
+    offset: usize,
+    gap: Gap<BLOCK>,
+    count: u32,
+) -> usize
+    requires { (0 < gap.0) × (offset + length (code gap.0 count) ≤ block_size) × (place b + block_size ≤ length arena.old) }
+    ensures { (result ≡ offset + length (code gap.entry.0 count)) × (arena.new ≡ sets arena.old (place b + offset) (code gap.entry.0 count)) }
 {
     let at = place_of(b);
     postings::put_posting(arena, at + offset, gap.steps(), count) - at

@@ -29,11 +29,13 @@ ghost use Rattle.std.specs.Iterator.{at_most};
 ghost use Rattle.frames.specs.Walk.{Goes, from_first};
 ghost use Rattle.frames.specs.Answers.{byte_of, IsKind, IsQuery};
 ghost use Rattle.frames.specs.Repeats.{chain, Chained};
-ghost use Rattle.frames.specs.Read.{Folds, max_lines, hashes_of, Hashed, Read};
+ghost use Rattle.frames.specs.Read.{max_lines, hashes_of, Hashed, Read};
 ghost use Rattle.refusals.specs.Numbers.{refused_under};
 
+mod folded;
 mod report;
 
+pub use folded::FoldedFrame;
 use refusals::Refusal;
 pub use report::{Line, Lines, LinesLeft};
 use std::ops::Range;
@@ -103,13 +105,13 @@ impl Cursor {
         &frame[self.term_range(frame)]
     }
 
-    // The same folded, out of the frame's folded bytes.
+    // The same folded.
     #[tactic(auto, using(crate::proofs::Read::folds_room, crate::proofs::Read::name_at), unfolding(crate::specs::Frames::past_field))]
-    pub fn name<'a>(self, frame: &[u8], names: &'a [u8]) -> &'a [u8]
-        requires { Field 0 frame.now self.at × Folds frame.now names.now }
-        ensures { result.now ≡ folded_at frame.now self.at }
+    pub fn name<'a>(self, folded: FoldedFrame<'a>) -> &'a [u8]
+        requires { Field 0 folded.frame.now self.at }
+        ensures { result.now ≡ folded_at folded.entry.frame.now self.at }
     {
-        &names[self.term_range(frame)]
+        &folded.names[self.term_range(folded.frame)]
     }
 
     // The count of the line here.
@@ -230,12 +232,13 @@ fn bad_term(mut left: Cursors) -> bool
 }
 
 // Refusals 4 to 6 of a report in one pass, or how many lines there are. Stores the hash of each line's folded term.
-fn read_lines(frame: &[u8], names: &[u8], hashes: &mut [u32]) -> Result<usize, Refusal>
-    requires { (length frame.now ≤ max_body + 3) × Folds frame.now names.now × (max_lines ≤ length hashes.old) }
-    ensures refused { refused_under result ≡ first_of (field_rows frame.now) }
-    ensures count { IfOk result (λ n. (n ≡ length (lines frame.now)) × (n ≤ max_lines)) }
-    ensures hashed { OnOk result (Hashed frame.now first_line 0 hashes.new) }
+fn read_lines(folded: FoldedFrame, hashes: &mut [u32]) -> Result<usize, Refusal>
+    requires { (length folded.frame.now ≤ max_body + 3) × (max_lines ≤ length hashes.old) }
+    ensures refused { refused_under result ≡ first_of (field_rows folded.entry.frame.now) }
+    ensures count { IfOk result (λ n. (n ≡ length (lines folded.entry.frame.now)) × (n ≤ max_lines)) }
+    ensures hashed { OnOk result (Hashed folded.entry.frame.now first_line 0 hashes.new) }
 {
+    let frame = folded.frame;
     let mut n = 0;
     let mut bad = false;
     let mut zero = false;
@@ -243,7 +246,7 @@ fn read_lines(frame: &[u8], names: &[u8], hashes: &mut [u32]) -> Result<usize, R
         if frame.len() < c.past(frame, 4).at {
             return Err(Refusal::WrongFields);
         }
-        let line = terms::judge(c.name(frame, names));
+        let line = terms::judge(c.name(folded));
         hashes[n] = line.hash;
         n += 1;
         bad |= !line.term;
@@ -259,15 +262,16 @@ fn read_lines(frame: &[u8], names: &[u8], hashes: &mut [u32]) -> Result<usize, R
 }
 
 // Whether a line of the chain from `last` on has the folded term of the line at c.
-fn in_chain(frame: &[u8], names: &[u8], earlier: &[u16; MAX_LINES], last: u16, c: Cursor) -> bool
-    requires { Folds frame.now names.now × Chained frame.now earlier.now last × Field count_bytes frame.now c.at }
+fn in_chain(folded: FoldedFrame, earlier: &[u16; MAX_LINES], last: u16, c: Cursor) -> bool
+    requires { Chained folded.frame.now earlier.now last × Field count_bytes folded.frame.now c.at }
     ensures { result
-        ≡ any (λ at. same (folded_at frame.now c.at) (folded_at frame.now at)) (chain earlier.now last) }
+        ≡ any (λ at. same (folded_at folded.entry.frame.now c.at) (folded_at folded.entry.frame.now at))
+        (chain earlier.now last) }
 {
     let mut at = usize::from(last);
     while at != 0 {
         let line = Cursor { at };
-        if basics::same_bytes(c.name(frame, names), line.name(frame, names)) {
+        if basics::same_bytes(c.name(folded), line.name(folded)) {
             return true;
         }
         at = usize::from(earlier[at / 5]);
@@ -277,17 +281,17 @@ fn in_chain(frame: &[u8], names: &[u8], earlier: &[u16; MAX_LINES], last: u16, c
 
 // Refusal 7: whether two lines have one folded term. Lines are chained by the last byte of their hash, so that each is
 // compared with few others.
-fn repeated_term(frame: &[u8], names: &[u8], hashes: &[u32]) -> bool
-    requires { (length frame.now ≤ max_body + 3) × (passes_end count_bytes frame.now first_line ≡ false)
-        × Folds frame.now names.now × (hashes.now ≡ hashes_of frame.now (lines frame.now)) }
-    ensures { result ≡ repeated_term frame.now (lines frame.now) }
+fn repeated_term(folded: FoldedFrame, hashes: &[u32]) -> bool
+    requires { (length folded.frame.now ≤ max_body + 3) × (passes_end count_bytes folded.frame.now first_line ≡ false)
+        × (hashes.now ≡ hashes_of folded.frame.now (lines folded.frame.now)) }
+    ensures { result ≡ repeated_term folded.entry.frame.now (lines folded.entry.frame.now) }
 {
     let mut last = [0u16; 256];
     let mut earlier = [0u16; MAX_LINES];
-    for (c, hash) in Cursors::lines(frame).zip(hashes) {
+    for (c, hash) in Cursors::lines(folded.frame).zip(hashes) {
         let bucket = (hash % 256) as usize;
         let latest = last[bucket];
-        if in_chain(frame, names, &earlier, latest, c) {
+        if in_chain(folded, &earlier, latest, c) {
             return true;
         }
         earlier[c.at / 5] = latest;
@@ -309,8 +313,9 @@ pub fn read_report(frame: &[u8], names: &mut [u8], hashes: &mut [u32]) -> Result
 {
     check_head(frame, Kind::Report)?;
     terms::fold(frame, names);
-    let count = read_lines(frame, names, hashes)?;
-    if repeated_term(frame, names, &hashes[..count]) {
+    let folded = FoldedFrame { frame, names };
+    let count = read_lines(folded, hashes)?;
+    if repeated_term(folded, &hashes[..count]) {
         return Err(Refusal::RepeatedTerm);
     }
     Ok(count)

@@ -15,7 +15,7 @@ ghost use Rattle.frames.specs.Read.{Folds, max_lines, hashes_of};
 ghost use Rattle.std.specs.Iterator.{at_most};
 ghost use Rattle.refusals.specs.Numbers.{refused_under};
 
-use crate::Cursor;
+use crate::{Cursor, FoldedFrame};
 use refusals::Refusal;
 use terms::Name;
 
@@ -95,11 +95,15 @@ impl<'a> Iterator for LinesLeft<'a> {
     fn next(&mut self) -> Option<Line<'a>> {
         let (hash, others) = self.hashes.split_first()?;
         let c = Cursor { at: self.at };
+        let folded = FoldedFrame {
+            frame: self.frame,
+            names: self.names,
+        };
         self.at = c.past(self.frame, 4).at;
         self.hashes = others;
         Some(Line {
             name: Name {
-                bytes: c.name(self.frame, self.names),
+                bytes: c.name(folded),
                 hash: *hash,
             },
             count: c.count(self.frame),

@@ -2,16 +2,26 @@
 -- Assumes nothing.
 use mathlib.Core.Path.{◌≡◌, refl, sym, ◌∙◌}
 use mathlib.Core.Bool.{Bool, true, false, cond}
-use mathlib.Core.List.{List}
-use Rattle.std.specs.Prelude.{Result, Ok, Err}
+use mathlib.Core.List.{List, ◌++◌}
+use Rattle.std.specs.Prelude.{Result, Ok, Err, Option, Some, None}
+use Rattle.std.specs.Iterator.{Yields}
 use Prim.Native.Nat.{ℕ, zero, suc, ◌+◌, ◌-◌, ◌%◌, ◌≤◌, ◌<◌}
 use native.Mathlib.Nat.{mod-lt}
 use native.Mathlib.Omega.{arith}
 use Rattle.std.proofs.lemmas.Bool.Decides.{nat_tests}
 use borrow.Author.Tests.{lt-ltb, le-ltb, eq-eqb, ne_eqb}
 use lib.Dec.{ltb, eqb}
-use lib.ListN.{length, get_or, length-set}
+use lib.ListN.{length, get_or, get_or-append, length-append, length-set}
 use lib.Seq.{get_or-set_other}
+use Rattle.std.specs.List.{range_with_len}
+use Rattle.std.specs.declared.iter.Chain.{Chain}
+use Rattle.std.specs.declared.ops.Range.{Range}
+use Rattle.std.specs.Iterator.Adapters.{chain_steps, chain_first, chain_second, chain_first_done, chain_second_done}
+use Rattle.std.proofs.iter.Yields.{nat_range_steps}
+use Rattle.std.proofs.lemmas.Iterator.{YieldsList, YieldsList-from_range}
+use Rattle.std.proofs.lemmas.Iterator.Consumers.{YieldsList-from_chain, YieldsList-turn, YieldsList-end}
+use Rattle.std.proofs.lemmas.List.{get_or-append_right}
+use Rattle.std.proofs.lemmas.List.FromFn.{length-range_with_len, get_or-range_with_len}
 use Rattle.basics.specs.Lists.{same}
 use Rattle.basics.proofs.Cases.{by-lt, by-eq}
 use Rattle.basics.proofs.Lists.{same_eq, eq_same}
@@ -52,6 +62,55 @@ next_last t s e = rw (eq-eqb (s + 1) t e)
 pub next_lt : (t s : ℕ) → s < t → next_slot t s < t
 unfolding next_slot
 next_lt t s h = grind (arith, nat_tests)
+
+-- the n-th slot from slot s on, and all of them
+abbrev pub nth_slot : ℕ → ℕ → ℕ → ℕ
+nth_slot t s n = cond (ltb (s + n) t) (s + n) (s + n - t)
+
+abbrev pub all_slots : ℕ → ℕ → List ℕ
+all_slots t s = range_with_len s (t - s) ++ range_with_len 0 s
+
+module _ (t s n : ℕ) (h : s < t) (l : n < t) where
+  pub slot_nth : (d : ℕ) → get_or (all_slots t s) n d ≡ nth_slot t s n
+  slot_nth d = grind (arith, nat_tests, length-range_with_len, get_or-append, get_or-append_right, get_or-range_with_len)
+
+  pub slot_next : next_slot t (nth_slot t s n) ≡ nth_slot t s (n + 1)
+  unfolding next_slot
+  slot_next = grind (arith, nat_tests)
+
+abbrev Slots : Type 0
+Slots = Chain (Range ℕ) (Range ℕ)
+
+abbrev slots_go : Slots → Option ℕ → Slots → Type 0
+slots_go = chain_steps nat_range_steps nat_range_steps
+
+-- a chain of two ranges that gives them all
+pub record Meets (t s : ℕ) (c : Slots) : Type 0 where
+  pub inside : s < t
+  pub gives : YieldsList slots_go (λ x. x) c (all_slots t s)
+
+module _ {t s : ℕ} where
+  pub meets_all : {c : Slots} → s < t → chain_first c ≡ record { start = s; end = t } → chain_second c ≡ record { start = 0; end = s }
+      → chain_first_done c ≡ false → chain_second_done c ≡ false → Meets t s c
+  meets_all h a b d e =
+      let first = YieldsList-from_range s t (t - s) a refl in
+      let second = YieldsList-from_range 0 s s b (omega arith) in
+      record { inside = h; gives = YieldsList-from_chain first second d e }
+
+  as_many : s < t → length (all_slots t s) ≡ t
+  as_many h = grind (arith, length-append, length-range_with_len)
+
+  module _ {c : Slots} (w : Meets t s c) (xs : List ℕ) (d : Slots) (y : Yields slots_go c xs d) (r : Option ℕ) (u : Slots) (g : slots_go d r u) where
+    -- a turn: the next slot
+    pub slot_turn : {x : ℕ} → r ≡ Some x → (length xs < t) × (x ≡ nth_slot t s (length xs))
+    slot_turn {x} i =
+        let turn = YieldsList-turn w.gives xs d y r u x i g in
+        let l : length xs < t = omega (arith, turn.0, as_many w.inside) in
+        (l, turn.1 ∙ slot_nth t s (length xs) w.inside l x)
+
+    -- the end: all have been met
+    pub slots_end : r ≡ None → length xs ≡ t
+    slots_end i = (YieldsList-end w.gives xs d y r u i g).1 ∙ as_many w.inside
 
 -- slot k is met: fewer than `left` slots on from slot s of t, and those before it are filled
 pub data Way (t : ℕ) (table : List ℕ) : ℕ → ℕ → ℕ → Type 0 where
@@ -221,7 +280,7 @@ module _ (a : List ℕ) (used : ℕ) (table w : List ℕ) where
       go (Err r) q p = absurd (omega arith)
 
 -- what the turns of a search take
-pub ruleset searching = (nat_tests, slots_le, from_some, from-none, search-none, search-some, next_plain, next_last)
+pub ruleset searching = (nat_tests, slots_le, from_some, from-none, search-none, search-some)
 
 -- what the entry where a search begins takes
 pub ruleset starting = (slots_le, first-none, first_some)

@@ -47,8 +47,8 @@ pub fn find(used: Used, table: &[u32], name: Name) -> Result<Found, Refusal>
     if t == 0 {
         return Ok(Found::Unknown(0));
     }
-    let mut slot = name.hash % t;
-    for _ in 0..t {
+    let start = name.hash % t;
+    for slot in (start..t).chain(0..start) {
         let e = table[slot as usize];
         if e == 0 {
             return Ok(Found::Unknown(slot));
@@ -58,10 +58,6 @@ pub fn find(used: Used, table: &[u32], name: Name) -> Result<Found, Refusal>
         }
         if holds_name(used.arena, e - 1, name) {
             return Ok(Found::At(e - 1));
-        }
-        slot += 1;
-        if slot == t {
-            slot = 0;
         }
     }
     Err(Refusal::Damaged)

@@ -9,45 +9,26 @@ ghost use Rattle.postings.specs.Claims.{RoundTrips};
 
 // The distance of a report from an earlier one, which is what a posting stores. The type says which the earlier one
 // is, so that a gap that counts from one report is not stored where another is meant.
-pub trait Gap: Copy {
-    ghost distance: { Self → ℕ };
-
-    fn between(earlier: u32, number: u32) -> Self
-        requires { earlier < number }
-        ensures { distance result ≡ number - earlier };
-
-    fn steps(self) -> u32
-        ensures { result ≡ distance self };
-}
+#[derive(Clone, Copy)]
+pub struct Gap<const BLOCK: bool>(pub u32);
 
 // From the last report in the chain.
-#[derive(Clone, Copy)]
-pub struct DGap(pub u32);
-
-impl Gap for DGap {
-    ghost distance = { λ gap. gap.0 };
-
-    fn between(earlier: u32, number: u32) -> Self {
-        DGap(number - earlier)
-    }
-
-    fn steps(self) -> u32 {
-        self.0
-    }
-}
+pub type DGap = Gap<false>;
 
 // From the first report of the block before: the gap of a block's first report.
-#[derive(Clone, Copy)]
-pub struct BGap(pub u32);
+pub type BGap = Gap<true>;
 
-impl Gap for BGap {
-    ghost distance = { λ gap. gap.0 };
-
-    fn between(earlier: u32, number: u32) -> Self {
-        BGap(number - earlier)
+impl<const BLOCK: bool> Gap<BLOCK> {
+    pub fn between(earlier: u32, number: u32) -> Self
+        requires { earlier < number }
+        ensures { result.0 ≡ number - earlier }
+    {
+        Gap(number - earlier)
     }
 
-    fn steps(self) -> u32 {
+    pub fn steps(self) -> u32
+        ensures { result ≡ self.entry.0 }
+    {
         self.0
     }
 }

@@ -9,6 +9,9 @@ mod name;
 
 pub use name::{Folded, Name};
 
+// The longest term.
+pub const MAX_TERM: usize = 36;
+
 // Whether folded bytes are those of a term, and their FNV-1a.
 #[derive(Clone, Copy)]
 pub struct Judged {
@@ -53,7 +56,7 @@ fn entry_of(b: u8) -> u8
 pub fn is_term(s: &[u8]) -> bool
     ensures { result ≡ is_term s.now }
 {
-    1 <= s.len() && s.len() <= 36 && s.iter().all(|b| entry_of(*b) != 0)
+    1 <= s.len() && s.len() <= MAX_TERM && s.iter().all(|b| entry_of(*b) != 0)
 }
 
 // One byte more into a hash.
@@ -106,7 +109,7 @@ pub fn judge(name: &[u8]) -> Judged
         hash = mix(hash, *b);
     }
     Judged {
-        term: 1 <= name.len() && name.len() <= 36 && 0 < least,
+        term: 1 <= name.len() && name.len() <= MAX_TERM && 0 < least,
         hash,
     }
 }

@@ -3,10 +3,7 @@
 ghost use Rattle.std.specs.Prelude.{◌≡◌, ◌≤◌, length};
 ghost use Rattle.terms.specs.Terms.{max_term, folded, fnv1a};
 
-use crate::{fnv1a, fold};
-
-// The longest term.
-const MAX_TERM: usize = 36;
+use crate::{MAX_TERM, fnv1a, fold};
 
 // A folded term with its hash.
 #[derive(Clone, Copy)]

@@ -12,23 +12,25 @@ turn : (f t : List ℕ) {earlier : List ℕ} {whole at : ℕ} (last : ℕ) {r : 
 turn f t {earlier} last h p e q = e ∙ has_more f t earlier h.falls _ p ∙ rw q
 
 pub name-requires : goal.name-requires
-name-requires c = (field_term count_bytes _ _ c.requires.2, c.requires.0)
+name-requires c = field_term count_bytes _ _ c.requires.1
 
 pub name-requires-in-loop-at : goal.name-requires-in-loop-at
-name-requires-in-loop-at c = (field_term count_bytes _ _ (c.loop-at.invariant.line (omega arith)), c.requires.0)
+name-requires-in-loop-at c = field_term count_bytes _ _ (c.loop-at.invariant.line (omega arith))
 
 pub returns-then-same_bytes : goal.returns-then-same_bytes
 returns-then-same_bytes c =
+    let f = c.args.folded.frame.now in
     let q = rw (c.name.ensures, c.name-in-loop-at.ensures) at c.same_bytes.ensures in
-    sym (turn c.args.frame.now (folded_at c.args.frame.now c.args.c.at) c.args.last c.requires.1 (omega arith) c.loop-at.invariant.left q ∙ rw c.if-same_bytes.true)
+    sym (turn f (folded_at f c.args.c.at) c.args.last c.requires.0 (omega arith) c.loop-at.invariant.left q ∙ rw c.if-same_bytes.true)
 
 pub loop-at-preserved : goal.loop-at-preserved
 loop-at-preserved c =
+    let f = c.args.folded.frame.now in
     let q = rw (c.name.ensures, c.name-in-loop-at.ensures) at c.same_bytes.ensures in
     rw c.from-at-in-loop-at.ensures
     (record {
-      left = turn c.args.frame.now (folded_at c.args.frame.now c.args.c.at) c.args.last c.requires.1 (omega arith) c.loop-at.invariant.left q ∙ rw c.if-same_bytes.false;
-      line = c.requires.1.whole (slot_of c.loop-at.at);
+      left = turn f (folded_at f c.args.c.at) c.args.last c.requires.0 (omega arith) c.loop-at.invariant.left q ∙ rw c.if-same_bytes.false;
+      line = c.requires.0.whole (slot_of c.loop-at.at);
     })
 
 pub returns : goal.returns

@@ -6,10 +6,13 @@ use Rattle.frames.proofs.Repeats.{has_term}
 use Rattle.frames.proofs.in_chain.Given as goal
 
 abbrev pub invariant-loop-at : goal.invariant-loop-at
-invariant-loop-at l = record {
-  left : has_term l.frame (folded_at l.frame l.c.at) (chain l.earlier l.last) ≡ has_term l.frame (folded_at l.frame l.c.at) (chain l.earlier l.at);
-  line : 0 < l.at → Field count_bytes l.frame l.at;
-}
+invariant-loop-at l =
+    let f = l.folded.frame.now in
+    let t = folded_at f l.c.at in
+    record {
+      left : has_term f t (chain l.earlier l.last) ≡ has_term f t (chain l.earlier l.at);
+      line : 0 < l.at → Field count_bytes f l.at;
+    }
 
 abbrev pub decreases-loop-at : goal.decreases-loop-at
 decreases-loop-at l = l.at

@@ -24,7 +24,7 @@ line_read {f} {w = w} {s = s} {t = t} {n = n} {count = count} {bad = bad} {zero 
 pub loop-c-init : goal.loop-c-init
 loop-c-init c =
     let o = over-first c.into_iter-c-iterator.ensures.into_iter_gives c.lines-c-items.ensures in
-    record { can = tt; ends = tt; over = o.0; read = rw o.1 (reading_none c.args.frame.now c.args.hashes.now c.requires.2) }
+    record { can = tt; ends = tt; over = o.0; read = rw o.1 (reading_none c.args.folded.frame.now c.args.hashes.now c.requires.1) }
 
 pub returns-then-frame-past-clause-refused : goal.returns-then-frame-past-clause-refused
 returns-then-frame-past-clause-refused c =
@@ -35,7 +35,7 @@ returns-then-frame-past-clause-refused c =
 pub name-requires : goal.name-requires
 name-requires c =
     let t = over-turn c.loop-c.invariant.over c.in-Some.ensures.steps in
-    (field_term count_bytes _ _ (turn-field t (rw (← c.past.ensures) c.if-frame-past.false)), c.requires.1)
+    field_term count_bytes _ _ (turn-field t (rw (← c.past.ensures) c.if-frame-past.false))
 
 pub count-requires : goal.count-requires
 count-requires c =

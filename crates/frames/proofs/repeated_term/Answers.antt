@@ -34,12 +34,12 @@ loop-c-init c =
     let g = c.into_iter-c-iterator.ensures.into_iter_gives in
     let i : c.into_iter-c-iterator.result.a ≡ c.lines.result = rw g c.zip-c-items.ensures.first in
     let o = over-first i c.lines.ensures in
-    let f = c.args.frame.now in
+    let f = c.args.folded.frame.now in
     record {
       can = (tt, tt);
       ends = tt;
       over = o.0;
-      hashed = rw (o.1, g) (c.zip-c-items.ensures.second.0 ∙ c.requires.3);
+      hashed = rw (o.1, g) (c.zip-c-items.ensures.second.0 ∙ c.requires.2);
       passed = rw o.1 (passed_none f 256 820 refl refl (omega arith) c.requires.1);
     }
 
@@ -47,7 +47,7 @@ pub in_chain-requires : goal.in_chain-requires
 in_chain-requires c =
     let i = c.loop-c.invariant in
     let t = over-turn i.over c.in-Some.ensures.steps.0 in
-    (c.requires.2, i.passed.chained _, rw t.here (passed-line i.passed t.starts))
+    (i.passed.chained _, rw t.here (passed-line i.passed t.starts))
 
 pub returns-then-in_chain : goal.returns-then-in_chain
 returns-then-in_chain c =

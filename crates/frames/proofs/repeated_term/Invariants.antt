@@ -8,10 +8,12 @@ use Rattle.frames.proofs.Repeats.{Passed}
 use Rattle.frames.proofs.repeated_term.Given as goal
 
 abbrev pub invariant-loop-c : goal.invariant-loop-c
-invariant-loop-c l = record {
-  can : (goal.iterator-loop-c).can_next l.c-iterator;
-  ends : (goal.iterator-loop-c).is_finite l.c-iterator;
-  over : Over l.frame count_bytes l.c-iterator.a;
-  hashed : iter_rest l.c-iterator.b ≡ hashes_of l.frame (fields count_bytes l.frame l.c-iterator.a.at);
-  passed : Passed l.frame l.last l.earlier l.c-iterator.a.at;
-}
+invariant-loop-c l =
+    let f = l.folded.frame.now in
+    record {
+      can : (goal.iterator-loop-c).can_next l.c-iterator;
+      ends : (goal.iterator-loop-c).is_finite l.c-iterator;
+      over : Over f count_bytes l.c-iterator.a;
+      hashed : iter_rest l.c-iterator.b ≡ hashes_of f (fields count_bytes f l.c-iterator.a.at);
+      passed : Passed f l.last l.earlier l.c-iterator.a.at;
+    }

@@ -7,9 +7,9 @@ use Rattle.terms.specs.Terms.{allowed, max_term}
 use Rattle.terms.proofs.Laws.{allowed_not-zero, is_term-allowed}
 use Rattle.terms.proofs.is_term.Goals as goal
 
-pub returns-then-s-le36 : goal.returns-then-s-le36
+pub returns-then-s-le-MAX_TERM : goal.returns-then-s-le-MAX_TERM
 unfolding all
-returns-then-s-le36 c =
+returns-then-s-le-MAX_TERM c =
     let s = c.args.s.now in
     let low : 1 ≤ length s = omega arith in
     let high : length s ≤ max_term = omega arith in

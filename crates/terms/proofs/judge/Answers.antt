@@ -27,10 +27,10 @@ loop-b-preserved c =
     let both = lesser c.loop-b.least (get_or w i 0) in
     record { hashed = grind (arith, fold_more); barred = cc }
 
-pub returns-then-name-le36 : goal.returns-then-name-le36
+pub returns-then-name-le-MAX_TERM : goal.returns-then-name-le-MAX_TERM
 unfolding is_name fnv1a
-returns-then-name-le36 c = whole _ _ _ (grind (arith, nat_tests, take_all)) (grind (arith, take_all))
+returns-then-name-le-MAX_TERM c = whole _ _ _ (grind (arith, nat_tests, take_all)) (grind (arith, take_all))
 
-pub returns-else-name-le36 : goal.returns-else-name-le36
+pub returns-else-name-le-MAX_TERM : goal.returns-else-name-le-MAX_TERM
 unfolding is_name fnv1a
-returns-else-name-le36 c = whole _ _ _ (grind (arith, nat_tests)) (grind (arith, take_all))
+returns-else-name-le-MAX_TERM c = whole _ _ _ (grind (arith, nat_tests)) (grind (arith, take_all))

@@ -4,5 +4,7 @@ use Rattle.frames.proofs.Cursor.name.Goals as goal
 
 pub returns : goal.returns
 returns c =
-    let e : c.term_range.result.end - c.term_range.result.start ≡ get_or c.args.frame.now c.args.self.at 0 = omega (arith, c.term_range.ensures.0, c.term_range.ensures.1) in
-    rw (e, c.term_range.ensures.0) (name_at _ _ c.requires.1 _ c.requires.0)
+    let f = c.args.folded.frame.now in
+    let r = c.term_range in
+    let e : r.result.end - r.result.start ≡ get_or f c.args.self.at 0 = omega (arith, r.ensures.0, r.ensures.1) in
+    rw (e, r.ensures.0) (name_at _ _ c.args.folded.folded _ c.requires)

@@ -24,7 +24,7 @@ past-requires c = (starts c.args.self.now (omega (arith, c.in_ok-hash.ensures.ca
 pub name-requires : goal.name-requires
 name-requires c =
     let s = c.args.self.now in
-    (field_term count_bytes s.frame.now s.at (sound_field (sound_left s) (starts s (omega (arith, c.in_ok-hash.ensures.cases.1)))), s.folded)
+    field_term count_bytes s.frame.now s.at (sound_field (sound_left s) (starts s (omega (arith, c.in_ok-hash.ensures.cases.1))))
 
 pub count-requires : goal.count-requires
 count-requires c =
