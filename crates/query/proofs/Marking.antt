@@ -4,14 +4,14 @@ use Prim.Native.Nat.{ℕ, zero, suc, ◌+◌, ◌-◌, ◌*◌, ◌/◌, ◌%◌
 use mathlib.Core.Path.{◌≡◌, refl, sym, ap, ◌∙◌}
 use mathlib.Core.Bool.{true, false, cond, ◌&&◌, true≢false}
 use native.Mathlib.Omega.{arith}
-use native.Mathlib.Nat.{add-mul-div_right, div-eq_of_lt, one-mul, mod-eq_of_lt, le-div_iff_mul-le, div-lt_iff_lt-mul, pow-suc, mod-lt}
+use native.Mathlib.Nat.{add-mul-div_right, div-eq_of_lt, one-mul, mod-eq_of_lt, mul_assoc, le-div_iff_mul-le, div-lt_iff_lt-mul, pow-suc, mod-lt}
 use lib.Dec.{leb, eqb}
-use lib.Pow.{pow-add, pow_pos, pow_mono, pow-lt, shl-shr, shr-shr, high, ones_split, ones_lt}
-use lib.Bits.{bit_and, and_step}
+use lib.Pow.{pow-add, pow_pos, pow_mono, pow-lt, shl-shr, shr-shr, high, field, mod-mod-pow, ones_split, ones_lt}
+use lib.Bits.{bit_and, and_step, shifted_even}
 use lib.Count.{count_leading_zeros, leading_top, count_trailing_zeros, under}
 use borrow.Author.Tests.{eqb-true, eqb-false, eq-eqb, ne_eqb, le-leb, lt-leb}
 use Rattle.basics.proofs.Cases.{by-lt, by-eq}
-use Rattle.query.specs.Windows.{width, In, bit_of, is_marked, FirstMarked, Without, with_mark, Settled}
+use Rattle.query.specs.Marks.{width, In, bit_of, is_marked, FirstMarked, Without, with_mark, Settled}
 
 -- ---- the bits of a number
 
@@ -111,6 +111,29 @@ ones_bit s h =
     odd : (p : ℕ) → 0 < p → (2 * p - 1) % 2 ≡ 1
     odd p h = omega arith
 
+-- the bits of a number shifted up: those past the 64th are lost, the others stand s - k lower in m, and below the shift there are none
+cut_bit : (y s : ℕ) → s < 64 → bit (y % 18446744073709551616) s ≡ bit y s
+cut_bit y s h =
+    let f : 63 - s + 1 + s ≡ 64 = omega arith in
+    ap (λ (x : ℕ). y % 2 ^ x / 2 ^ s % 2) (sym f) ∙ ap (λ (x : ℕ). x % 2) (field y (63 - s + 1) s) ∙ mod-mod-pow (y / 2 ^ s) (63 - s) 1
+
+module _ (m k s : ℕ) where
+  up_bit : k ≤ s → bit (m * 2 ^ k) s ≡ bit m (s - k)
+  up_bit h =
+      let f : k + (s - k) ≡ s = omega arith in
+      ap (λ (x : ℕ). m * 2 ^ k / 2 ^ x % 2) (sym f) ∙ ap (λ (x : ℕ). x % 2) (sym (shr-shr (m * 2 ^ k) k (s - k)))
+      ∙ ap (λ (x : ℕ). x / 2 ^ (s - k) % 2) (shl-shr m k)
+
+  up_none : s < k → bit (m * 2 ^ k) s ≡ 0
+  up_none h =
+      let d = k - suc s in
+      let f : suc d + s ≡ k = omega arith in
+      ap (λ (x : ℕ). m * 2 ^ x / 2 ^ s % 2) (sym f)
+      ∙ ap (λ (x : ℕ). m * x / 2 ^ s % 2) (pow-add 2 (suc d) s)
+      ∙ ap (λ (x : ℕ). x / 2 ^ s % 2) (sym (mul_assoc m (2 ^ suc d) (2 ^ s)))
+      ∙ ap (λ (x : ℕ). x % 2) (shl-shr (m * 2 ^ suc d) s)
+      ∙ shifted_even m d
+
 -- the highest bit, and those above it
 top_bit : (m j : ℕ) → 2 ^ j ≤ m → m < 2 ^ suc j → bit m j ≡ 1
 top_bit m j l h =
@@ -209,12 +232,20 @@ place_lt base n = omega arith
 places_differ : (base i n : ℕ) → In base i → In base n → (i ≡ n → ⊥) → place base i ≡ place base n → ⊥
 places_differ base i n g h z e = z (omega arith)
 
--- no report is marked, or all
+-- no report is marked
 pub marked-none : (base n : ℕ) → is_marked 0 base n ≡ false
 marked-none base n = marked_no 0 base n (above_bit 0 (place base n) (pow_pos (place base n)))
 
-pub marked_all : (base n : ℕ) → In base n → is_marked 18446744073709551615 base n ≡ true
-marked_all base n h = marked_yes 18446744073709551615 base n (ones_bit (place base n) (place_lt base n))
+-- those up to `to` are where all ones are shifted up to the bit of `to`
+pub marked_upto : (base to n : ℕ) → In base to → In base n
+    → is_marked (18446744073709551615 * 2 ^ (63 - (to - base)) % 18446744073709551616) base n ≡ leb n to
+marked_upto base to n t h =
+    let k = 63 - (to - base) in
+    let s = place base n in
+    let cut = cut_bit (18446744073709551615 * 2 ^ k) s (place_lt base n) in
+    by-lt to n
+    (λ l. rw (lt-leb n to l) (marked_no _ base n (cut ∙ up_none 18446744073709551615 k s (omega (arith, t.from, t.below, h.from, h.below)))))
+    (λ l. rw (le-leb n to l) (marked_yes _ base n (cut ∙ up_bit 18446744073709551615 k s (omega (arith, t.from, t.below, h.from, h.below)) ∙ ones_bit (s - k) (omega arith))))
 
 -- one more
 module _ (mask base n : ℕ) (h : In base n) (e : is_marked mask base n ≡ false) where
@@ -321,8 +352,8 @@ last-marked base mask p h = go (count_trailing_zeros 64 mask) (lowest_bit 64 mas
     )
 
 -- the first report marked stands as far behind the window's first as the number has leading zeros
-pub first-marked : (mask : ℕ) → 0 < mask → mask < 2 ^ 64 → FirstMarked mask (count_leading_zeros 64 mask)
-first-marked mask p h = go (count_leading_zeros 64 mask) t.0 t.1 t.2 t.3
+pub first_marked : (mask : ℕ) → 0 < mask → mask < 2 ^ 64 → FirstMarked mask (count_leading_zeros 64 mask)
+first_marked mask p h = go (count_leading_zeros 64 mask) t.0 t.1 t.2 t.3
   where
     t : (j : ℕ) × (count_leading_zeros 64 mask + suc j ≡ 64) × (2 ^ j ≤ mask) × (mask < 2 ^ suc j)
     t = leading_top 64 mask p h

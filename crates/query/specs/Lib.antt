@@ -1,3 +1,4 @@
 pub mod Listing
 pub mod Needs
+pub mod Marks
 pub mod Windows
