@@ -153,10 +153,10 @@ fn put_end(out: &mut [u8], at: usize, more: bool) -> usize
 // ---- one frame
 
 // The byte at an offset, 0 behind the end.
-fn byte_at(s: &[u8], i: usize) -> usize
-    ensures { (result ≡ get_or s.now i 0) × (result < 256) }
+fn byte_at(s: &[u8], i: usize) -> u8
+    ensures { result ≡ get_or s.now i 0 }
 {
-    usize::from(s.get(i).copied().unwrap_or(0))
+    s.get(i).copied().unwrap_or(0)
 }
 
 // The call that a frame's kind asks for, if any.
@@ -287,7 +287,7 @@ fn answer_frame(
 fn body_length(s: &[u8]) -> usize
     ensures { (result ≡ body_length s.now) × (result < 65536) }
 {
-    byte_at(s, 1) * 256 + byte_at(s, 2)
+    basics::pair(byte_at(s, 1), byte_at(s, 2))
 }
 
 #[tactic(auto, unfolding(crate::specs::Desk::overlong))]

@@ -193,7 +193,7 @@ fn check_head(frame: &[u8], kind: Kind) -> Result<(), Refusal>
     if frame.len() < 4 || frame[0] != 1 {
         return Err(Refusal::WrongVersion);
     }
-    let body = usize::from(frame[1]) * 256 + usize::from(frame[2]);
+    let body = basics::pair(frame[1], frame[2]);
     if MAX_BODY < body || body != frame.len() - 3 {
         return Err(Refusal::WrongLength);
     }

@@ -283,15 +283,7 @@ fn cut<'a>(s: &'a [u8]) -> Option<(&'a [u8], &'a [u8])>
     let [high, low, behind @ ..] = s else {
         return None;
     };
-    behind.split_at_checked(usize::from(*high) * 256 + usize::from(*low))
-}
-
-// Two bytes as a number.
-fn read_pair(s: &[u8], at: usize) -> usize
-    requires { at + 2 ≤ length s.now }
-    ensures { result < 65536 }
-{
-    usize::from(s[at]) * 256 + usize::from(s[at + 1])
+    behind.split_at_checked(basics::pair(*high, *low))
 }
 
 fn print_refused(rt: &impl Print, refusal: u8) -> io::Result<()> {
@@ -427,8 +419,8 @@ fn calls(rt: &impl Print, payload: &[u8]) -> io::Result<()> {
     if payload.len() < 5 {
         return Ok(());
     }
-    let blocks = read_pair(payload, 0);
-    let entries = read_pair(payload, 2);
+    let blocks = basics::pair(payload[0], payload[1]);
+    let entries = basics::pair(payload[2], payload[3]);
     let places = usize::from(payload[4]);
     if 24 < blocks || 64 < entries {
         return Ok(());
