@@ -21,7 +21,7 @@ ghost use Rattle.desk.specs.Needs.{Puts, Answers, Settles, Turns, Reads, longest
 ghost use Rattle.desk.specs.Claims.{LastRefused, TellsLedger};
 
 use counters::Counters;
-use frames::Kind;
+use frames::{Kind, MAX_BODY};
 use ingest::ReportAnswer;
 use refusals::Refusal;
 use std::io::{self, Read};
@@ -294,7 +294,7 @@ fn body_length(s: &[u8]) -> usize
 fn is_overlong(s: &[u8]) -> bool
     ensures { result ≡ overlong s.now }
 {
-    4096 < body_length(s)
+    MAX_BODY < body_length(s)
 }
 
 #[tactic(auto, unfolding(crate::specs::Desk::frame_length))]

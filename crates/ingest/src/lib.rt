@@ -17,7 +17,7 @@ ghost use Rattle.ingest.specs.declared.Place.TheVariants.{New};
 
 use blocks::{Head, Used};
 use counters::Counters;
-use frames::{Line, Lines, MAX_LINES};
+use frames::{Line, Lines, MAX_FRAME, MAX_LINES};
 use lookup::Found;
 use refusals::Refusal;
 
@@ -376,7 +376,7 @@ fn judge_and_write(
     ensures untouched { OnErr result ((arena.new ≡ arena.old) × (table.new ≡ table.old)) }
     ensures written { IfOk result (λ w. wrote arena.new table.new w ≡ write_lines (memory arena.old table.old k) (k.reports + 1) (report_lines frame.now)) }
 {
-    let mut names = [0u8; 4100];
+    let mut names = [0u8; MAX_FRAME];
     let mut hashes = [0u32; MAX_LINES];
     let mut kept = [0u32; MAX_LINES];
     let lines = Lines::read(frame, &mut names, &mut hashes)?;

@@ -7,7 +7,7 @@ ghost use Rattle.terms.specs.Terms.{max_term};
 ghost use Rattle.frames.specs.Frames.{first_term, terms, passes_end, bad_term};
 
 use counters::Counters;
-use frames::{Cursors, Kind, Lines, MAX_LINES, Query};
+use frames::{Cursors, Kind, Lines, MAX_FRAME, MAX_LINES, Query};
 use ingest::ReportAnswer;
 use query::ListAnswer;
 use refusals::Refusal;
@@ -119,7 +119,7 @@ fn print_refusal(rt: &impl Print, refusal: Refusal) -> io::Result<()> {
 
 // The folded terms of a sound report with their counts.
 fn report_frame(rt: &impl Print, frame: &[u8]) -> io::Result<()> {
-    let mut names = [0u8; 4099];
+    let mut names = [0u8; MAX_FRAME];
     let mut hashes = [0u32; MAX_LINES];
     match Lines::read(frame, &mut names, &mut hashes) {
         Err(refusal) => print_refusal(rt, refusal),
