@@ -429,11 +429,7 @@ fn main(rt: HostRuntime) {
     let mut table = [0u32; 512];
     let mut input = [0u8; 65536];
     let mut out = [0u8; 65536];
-    let mut counters = Counters {
-        used: 0,
-        terms: 0,
-        reports: 0,
-    };
+    let mut counters = Counters::default();
     let mut held: usize = 0;
     let mut ended = false;
     'turns: for _ in 0..u64::MAX {

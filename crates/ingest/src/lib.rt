@@ -45,7 +45,7 @@ pub enum Place {
 }
 
 // What the lines need together.
-#[derive(Clone, Copy)]
+#[derive(Clone, Copy, Default)]
 pub struct Plan {
     pub terms: u32,
     pub blocks: u32,
@@ -177,10 +177,7 @@ fn plan_lines(arena: Arena, table: &[u32], lines: Lines, kept: &mut [u32]) -> Re
     let mut lengths = [0u8; MAX_LINES];
     lookup::first_entries(table, lines.hashes, kept);
     lookup::first_lengths(used, &kept[..lines.hashes.len()], &mut lengths);
-    let mut plan = Plan {
-        terms: 0,
-        blocks: 0,
-    };
+    let mut plan = Plan::default();
     for (n, line) in lines.iter().enumerate() {
         let entry = kept[n];
         let found = lookup::find_from(used, table, line.name, entry, lengths[n]);

@@ -28,7 +28,7 @@ loop-n-init c =
       all = all_left c.args.lines c.iter-line-items.ensures;
       counted = refl;
       near = omega arith;
-      plan = planned_none m c.args.lines.frame.now;
+      plan = planned_none m c.args.lines.frame.now c.default-plan.ensures;
       keeps = keeps-none m c.args.lines.frame.now _;
     }
 
