@@ -406,13 +406,10 @@ fn complain(rt: &impl Eprint, text: &str) {
     let _ = rt.eprintln(text);
 }
 
-// Writes lines and tells whether that went well.
-fn print(rt: &(impl Print + Eprint), text: &[u8]) -> bool {
-    let is_written = rt.write_all(text).is_ok();
-    if !is_written {
-        complain(rt, "desk: cannot write the answers");
-    }
-    is_written
+// Writes lines, and complains where they cannot be written.
+fn print(rt: &(impl Print + Eprint), text: &[u8]) -> io::Result<()> {
+    rt.write_all(text)
+        .inspect_err(|_| complain(rt, "desk: cannot write the answers"))
 }
 
 // Pinned as contracts, so that the gate fails without them: the frame that ends the program is refused under 1 or 2,
@@ -436,7 +433,7 @@ fn main(rt: HostRuntime) {
         let t = take_turn(
             &mut arena, &mut table, counters, &mut input, held, ended, &mut out,
         );
-        if !print(&rt, &out[..t.written]) {
+        if print(&rt, &out[..t.written]).is_err() {
             return;
         }
         counters = t.counters;
