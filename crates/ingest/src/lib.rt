@@ -16,7 +16,7 @@ ghost use Rattle.ingest.specs.Needs.{Room, HeadIs, Below, Held, with_place, need
 ghost use Rattle.ingest.specs.declared.Place.TheVariants.{New};
 
 use blocks::{Head, Used};
-use counters::Counters;
+use counters::{Counters, Lent};
 use frames::{Line, Lines, MAX_FRAME, MAX_LINES};
 use lookup::Found;
 use refusals::Refusal;
@@ -189,15 +189,16 @@ fn plan_lines(arena: Arena, table: &[u32], lines: Lines, kept: &mut [u32]) -> Re
 
 // Refusals 11 and 12 for what the lines need.
 #[tactic(auto, unfolding(crate::specs::Report::plan_rows, frames::specs::Refusals::first_of))]
-fn has_room(arena: Arena, table: &[u32], plan: Plan) -> Result<(), Refusal>
-    requires { (arena.k.terms ≤ max_terms table.now) × (plan.terms ≤ max_body) }
-    ensures { let m = memory arena.entry.bytes.now table.now arena.entry.k in
+fn has_room(lent: Lent, plan: Plan) -> Result<(), Refusal>
+    requires { plan.terms ≤ max_body }
+    ensures { let m = memory lent.entry.arena.now lent.entry.table.now lent.entry.counters in
         refused_under result ≡ first_of (plan_rows m (needed plan)) }
 {
-    if counters::max_terms(table) < arena.k.terms + plan.terms {
+    let k = lent.counters;
+    if counters::max_terms(lent.table) < k.terms + plan.terms {
         return Err(Refusal::TableFull);
     }
-    if blocks::capacity_of(arena.bytes) - arena.k.used < plan.blocks {
+    if blocks::capacity_of(lent.arena) - k.used < plan.blocks {
         return Err(Refusal::ArenaFull);
     }
     Ok(())
@@ -339,27 +340,23 @@ fn write_lines(
 
 // ---- the call
 
-// Refusals 8 to 12 of a sound frame. Where none holds, what its lines keep is in `kept`.
-fn judge_report(
-    arena: &[u8],
-    table: &[u32],
-    k: Counters,
-    lines: Lines,
-    kept: &mut [u32],
-) -> Result<(), Refusal>
+// Refusals 9 to 12 of a sound frame, past refusal 8. Where none holds, what its lines keep is in `kept`.
+fn judge_report(lent: Lent, lines: Lines, kept: &mut [u32]) -> Result<(), Refusal>
     requires { max_lines ≤ length kept.old }
-    ensures refused { refused_under result ≡ call_refusal (memory arena.now table.now k) lines.entry.frame.now }
-    ensures kept { OnOk result (Kept (memory arena.now table.now k) lines.entry.frame.now kept.new) }
+    ensures refused { let m = memory lent.entry.arena.now lent.entry.table.now lent.entry.counters in
+        refused_under result ≡ call_refusal m lines.entry.frame.now }
+    ensures kept { let m = memory lent.entry.arena.now lent.entry.table.now lent.entry.counters in
+        OnOk result (Kept m lines.entry.frame.now kept.new) }
 {
-    if counters::are_wrong(arena, table, k) {
-        return Err(Refusal::WrongCounters);
-    }
-    if k.reports == u32::MAX {
+    if lent.counters.reports == u32::MAX {
         return Err(Refusal::NumbersSpent);
     }
-    let arena = Arena { bytes: arena, k };
-    let plan = plan_lines(arena, table, lines, kept)?;
-    has_room(arena, table, plan)
+    let arena = Arena {
+        bytes: lent.arena,
+        k: lent.counters,
+    };
+    let plan = plan_lines(arena, lent.table, lines, kept)?;
+    has_room(lent, plan)
 }
 
 // Refusals 1 to 12, before a byte is written; else what writing the lines comes to.
@@ -377,7 +374,8 @@ fn judge_and_write(
     let mut hashes = [0u32; MAX_LINES];
     let mut kept = [0u32; MAX_LINES];
     let lines = Lines::read(frame, &mut names, &mut hashes)?;
-    judge_report(arena, table, k, lines, &mut kept)?;
+    let lent = Lent::new(arena, table, k)?;
+    judge_report(lent, lines, &mut kept)?;
     Ok(write_lines(arena, table, k, lines, &kept))
 }
 
