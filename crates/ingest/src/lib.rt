@@ -4,7 +4,6 @@
 ghost use Rattle.std.specs.Prelude.{◌≡◌, List, ℕ, Ok, OnOk, OnErr, IfOk, ◌+◌, ◌-◌, ◌≤◌, ◌<◌, length, get_or};
 ghost use Rattle.terms.specs.Terms.{max_term, fnv1a};
 ghost use Rattle.frames.specs.Frames.{max_body, lines, report_lines};
-ghost use Rattle.frames.specs.Read.{max_lines};
 ghost use Rattle.frames.specs.Refusals.{first_of};
 ghost use Rattle.blocks.specs.Fields.{max_word, place};
 ghost use Rattle.lookup.specs.Lookup.{slots, search};
@@ -166,8 +165,12 @@ impl Plan {
 // asked for before the first is compared: their loads miss the caches, and so they overlap. `kept` first has the entries
 // of these slots; an entry stays there for its line's turn where the term was found right there, else it becomes 0, which
 // stands for none as it does in the table.
-fn plan_lines(arena: Arena, table: &[u32], lines: Lines, kept: &mut [u32]) -> Result<Plan, Refusal>
-    requires { max_lines ≤ length kept.old }
+fn plan_lines(
+    arena: Arena,
+    table: &[u32],
+    lines: Lines,
+    kept: &mut [u32; MAX_LINES],
+) -> Result<Plan, Refusal>
     ensures plan { let m = memory arena.entry.bytes.now table.now arena.entry.k in
         Plans (lines_plan m (report_lines lines.entry.frame.now)) result }
     ensures kept { let m = memory arena.entry.bytes.now table.now arena.entry.k in
@@ -322,10 +325,9 @@ fn write_lines(
     table: &mut [u32],
     k: Counters,
     lines: Lines,
-    kept: &[u32],
+    kept: &[u32; MAX_LINES],
 ) -> Result<Counters, Stopped>
-    requires { let m = memory arena.old table.old k in
-        Held arena.old table.old k × (max_lines ≤ length kept.now) × Kept m lines.frame.now kept.now }
+    requires { Held arena.old table.old k × Kept (memory arena.old table.old k) lines.frame.now kept.now }
     ensures { wrote arena.new table.new result
         ≡ write_lines (memory arena.old table.old k) (k.reports + 1) (report_lines lines.entry.frame.now) }
 {
@@ -341,8 +343,7 @@ fn write_lines(
 // ---- the call
 
 // Refusals 9 to 12 of a sound frame, past refusal 8. Where none holds, what its lines keep is in `kept`.
-fn judge_report(lent: Lent, lines: Lines, kept: &mut [u32]) -> Result<(), Refusal>
-    requires { max_lines ≤ length kept.old }
+fn judge_report(lent: Lent, lines: Lines, kept: &mut [u32; MAX_LINES]) -> Result<(), Refusal>
     ensures refused { let m = memory lent.entry.arena.now lent.entry.table.now lent.entry.counters in
         refused_under result ≡ call_refusal m lines.entry.frame.now }
     ensures kept { let m = memory lent.entry.arena.now lent.entry.table.now lent.entry.counters in

@@ -27,4 +27,4 @@ write_lines-requires c =
     let f = c.in_ok-lines.lines.frame.now in
     let r = rw c.in_ok-lent.ensures.lent at c.in_ok-judge_report.ensures in
     let j = judged m f (sym r.refused) in
-    (held_right m j.counters j.numbered (omega arith), omega arith, r.kept)
+    (held_right m j.counters j.numbered (omega arith), r.kept)
