@@ -1,4 +1,5 @@
-// What every crate above shares: 16-bit and 32-bit numbers in bytes, highest byte first, and whether two slices are the same. The laws on numbers, lists and tables stand in proofs/.
+// What every crate above shares: 16-bit and 32-bit numbers in bytes, highest byte first, and whether two slices are the
+// same. The laws on numbers, lists and tables stand in proofs/.
 #![tactic(auto)]
 
 ghost use Rattle.std.specs.Prelude.{◌≡◌, ◌+◌, ◌*◌, ◌≤◌, ◌<◌, min, length};
