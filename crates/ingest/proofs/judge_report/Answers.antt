@@ -34,9 +34,6 @@ returns-in_err-plan-clause-refused c =
     (sym (call_plan m f c.args.lines.sound l.right c.if-lent-eq4294967295.false
     ∙ plan_damaged m (lines_plan m (report_lines f)) c.in_err-plan.ensures.plan.1))
 
-pub has_room-requires : goal.has_room-requires
-has_room-requires c = c.in_ok-plan.ensures.plan.1
-
 pub returns-clause-refused : goal.returns-clause-refused
 returns-clause-refused c =
     let l = c.args.lent in

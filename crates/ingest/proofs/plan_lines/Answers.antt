@@ -3,7 +3,7 @@ use mathlib.Core.Path.{◌≡◌, refl, sym, ap, ◌∙◌}
 use native.Mathlib.Omega.{arith}
 use lib.ListN.{length, get_or}
 use Rattle.std.proofs.lemmas.Result.{err_from_is_err_and}
-use Rattle.std.proofs.lemmas.List.{length_push, length-take, length-take-le, get_or-take}
+use Rattle.std.proofs.lemmas.List.{length_push, length-take-le, get_or-take}
 use Rattle.terms.specs.Terms.{fnv1a}
 use Rattle.frames.proofs.Laws.{sound-some}
 use Rattle.lookup.specs.Lookup.{search as sought, first_entry, length_behind, first_hit}
@@ -13,10 +13,6 @@ use Rattle.ingest.proofs.Standing.{lines_done, inside, lines_more, hashes_long, 
 use Rattle.ingest.proofs.Plans.{planned_none, planned_end, planned_stop, planned_more}
 use Rattle.ingest.proofs.Keeping.{read_kept, keeps-none, keeps_more, keeps-all}
 use Rattle.ingest.proofs.plan_lines.Goals as goal
-
-pub first_lengths-requires : goal.first_lengths-requires
-first_lengths-requires c =
-    omega (arith, c.args.lines.few, length-take (length c.args.lines.hashes.now) c.first_entries.new.entries)
 
 pub loop-n-init : goal.loop-n-init
 loop-n-init c =
