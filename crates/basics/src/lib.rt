@@ -1,7 +1,8 @@
-// What every crate above shares: 32-bit numbers in byte slices, highest byte first, and whether two slices are the same. The laws on numbers, lists and tables stand in proofs/.
+// What every crate above shares: 16-bit and 32-bit numbers in bytes, highest byte first, and whether two slices are the
+// same. The laws on numbers, lists and tables stand in proofs/.
 #![tactic(auto)]
 
-ghost use Rattle.std.specs.Prelude.{◌≡◌, ◌+◌, ◌≤◌, ◌<◌, min, length};
+ghost use Rattle.std.specs.Prelude.{◌≡◌, ◌+◌, ◌*◌, ◌≤◌, ◌<◌, min, length};
 ghost use Rattle.std.proofs.lemmas.List.Edits.{sets};
 ghost use Rattle.basics.specs.Words.{word, word_at};
 ghost use Rattle.basics.specs.Lists.{same};
@@ -11,6 +12,13 @@ pub fn saturated(n: usize) -> u32
     ensures { result ≡ min n 4294967295 }
 {
     u32::try_from(n).unwrap_or(u32::MAX)
+}
+
+// Two bytes as a number, the high one first.
+pub fn pair(high: u8, low: u8) -> usize
+    ensures { (result ≡ high * 256 + low) × (result < 65536) }
+{
+    usize::from(u16::from_be_bytes([high, low]))
 }
 
 // The number in the four bytes from `at` on.

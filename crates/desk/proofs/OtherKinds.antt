@@ -9,7 +9,7 @@ use borrow.Author.Tests.{ne_eqb}
 use Rattle.frames.specs.Refusals.{first_of}
 use Rattle.frames.specs.Frames.{kind, wrong_version, wrong_length, wrong_kind, head_rows, field_rows, report_rows, report_refusal}
 use Rattle.std.proofs.Common.{Some, None}
-use Rattle.frames.specs.declared.Kind.TheVariants.{Report, One, All}
+use Rattle.frames.specs.declared.Kind.TheVariants.{Report}
 use Rattle.desk.specs.Desk.{kind_of, other_refusal}
 
 module _ (f : List ℕ) where

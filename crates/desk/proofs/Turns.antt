@@ -10,6 +10,7 @@ use lib.Seq.{take_at, take-add}
 use Rattle.std.proofs.Common.{Result}
 use Rattle.std.specs.List.{copy_within}
 use Rattle.basics.proofs.Parts.{drop-take}
+use Rattle.counters.specs.declared.Counters.{Counters}
 use Rattle.counters.specs.Counters.{Memory, memory}
 use Rattle.desk.specs.declared.Next.TheVariants.{Settle, Read, Stop}
 use Rattle.desk.specs.declared.Settled.{Settled}
@@ -36,9 +37,12 @@ turned input held {r = r} h v e =
 -- ---- turn after turn
 
 -- before the first turn
-pub reached-start : (arena table : List ℕ) → arena ≡ replicate arena_bytes 0 → table ≡ replicate table_entries 0 → (input : List ℕ) → Reached (memory arena table (record { used = 0; terms = 0; reports = 0 })) (take 0 input) false
+pub reached-start : (arena table : List ℕ) (k : Counters) → arena ≡ replicate arena_bytes 0 → table ≡ replicate table_entries 0 → (k.used ≡ 0) × ((k.terms ≡ 0) × (k.reports ≡ 0)) → (input : List ℕ)
+    → Reached (memory arena table k) (take 0 input) false
 unfolding started memory_after
-reached-start arena table p q input = record { read = []; done = []; cut = λ t e. refl; leaves = rw (p, q) }
+reached-start arena table k p q z input =
+    let zeros : memory arena table (record { used = k.used; terms = k.terms; reports = k.reports }) ≡ started = rw (p, q, z.0, z.1.0, z.1.1) in
+    record { read = []; done = []; cut = λ t e. refl; leaves = zeros }
 
 module _ {m : Memory} {held : List ℕ} {ended : Bool} (v : Reached m held ended) where
   module _ {out : List ℕ} {r : Settled} {left : Memory} {input after : List ℕ} (w : Turns m held ended out r left input after) where

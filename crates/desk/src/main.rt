@@ -21,7 +21,7 @@ ghost use Rattle.desk.specs.Needs.{Puts, Answers, Settles, Turns, Reads, longest
 ghost use Rattle.desk.specs.Claims.{LastRefused, TellsLedger};
 
 use counters::Counters;
-use frames::Kind;
+use frames::{Kind, MAX_BODY};
 use ingest::ReportAnswer;
 use refusals::Refusal;
 use std::io::{self, Read};
@@ -153,10 +153,10 @@ fn put_end(out: &mut [u8], at: usize, more: bool) -> usize
 // ---- one frame
 
 // The byte at an offset, 0 behind the end.
-fn byte_at(s: &[u8], i: usize) -> usize
-    ensures { (result ≡ get_or s.now i 0) × (result < 256) }
+fn byte_at(s: &[u8], i: usize) -> u8
+    ensures { result ≡ get_or s.now i 0 }
 {
-    usize::from(s.get(i).copied().unwrap_or(0))
+    s.get(i).copied().unwrap_or(0)
 }
 
 // The call that a frame's kind asks for, if any.
@@ -287,14 +287,14 @@ fn answer_frame(
 fn body_length(s: &[u8]) -> usize
     ensures { (result ≡ body_length s.now) × (result < 65536) }
 {
-    byte_at(s, 1) * 256 + byte_at(s, 2)
+    basics::pair(byte_at(s, 1), byte_at(s, 2))
 }
 
 #[tactic(auto, unfolding(crate::specs::Desk::overlong))]
 fn is_overlong(s: &[u8]) -> bool
     ensures { result ≡ overlong s.now }
 {
-    4096 < body_length(s)
+    MAX_BODY < body_length(s)
 }
 
 #[tactic(auto, unfolding(crate::specs::Desk::frame_length))]
@@ -406,13 +406,10 @@ fn complain(rt: &impl Eprint, text: &str) {
     let _ = rt.eprintln(text);
 }
 
-// Writes lines and tells whether that went well.
-fn print(rt: &(impl Print + Eprint), text: &[u8]) -> bool {
-    let is_written = rt.write_all(text).is_ok();
-    if !is_written {
-        complain(rt, "desk: cannot write the answers");
-    }
-    is_written
+// Writes lines, and complains where they cannot be written.
+fn print(rt: &(impl Print + Eprint), text: &[u8]) -> io::Result<()> {
+    rt.write_all(text)
+        .inspect_err(|_| complain(rt, "desk: cannot write the answers"))
 }
 
 // Pinned as contracts, so that the gate fails without them: the frame that ends the program is refused under 1 or 2,
@@ -429,18 +426,14 @@ fn main(rt: HostRuntime) {
     let mut table = [0u32; 512];
     let mut input = [0u8; 65536];
     let mut out = [0u8; 65536];
-    let mut counters = Counters {
-        used: 0,
-        terms: 0,
-        reports: 0,
-    };
+    let mut counters = Counters::default();
     let mut held: usize = 0;
     let mut ended = false;
     'turns: for _ in 0..u64::MAX {
         let t = take_turn(
             &mut arena, &mut table, counters, &mut input, held, ended, &mut out,
         );
-        if !print(&rt, &out[..t.written]) {
+        if print(&rt, &out[..t.written]).is_err() {
             return;
         }
         counters = t.counters;

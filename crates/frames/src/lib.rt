@@ -41,7 +41,10 @@ pub use report::{Line, Lines, LinesLeft};
 use std::ops::Range;
 
 // The longest body of a frame.
-const MAX_BODY: usize = 4096;
+pub const MAX_BODY: usize = 4096;
+
+// The longest frame: a version, the length of the body in two bytes, and the body.
+pub const MAX_FRAME: usize = MAX_BODY + 3;
 
 // More than a frame has lines: each has 5 bytes or more, and 4,095 follow the kind.
 pub const MAX_LINES: usize = 820;
@@ -195,7 +198,7 @@ fn check_head(frame: &[u8], kind: Kind) -> Result<(), Refusal>
     if frame.len() < 4 || frame[0] != 1 {
         return Err(Refusal::WrongVersion);
     }
-    let body = usize::from(frame[1]) * 256 + usize::from(frame[2]);
+    let body = basics::pair(frame[1], frame[2]);
     if MAX_BODY < body || body != frame.len() - 3 {
         return Err(Refusal::WrongLength);
     }
@@ -326,7 +329,7 @@ pub fn check_report(frame: &[u8]) -> Result<usize, Refusal>
     ensures refused { refused_under result ≡ report_refusal frame.now }
     ensures count { IfOk result (λ n. n ≡ length (lines frame.now)) }
 {
-    let mut names = [0u8; MAX_BODY + 3];
+    let mut names = [0u8; MAX_FRAME];
     let mut hashes = [0u32; MAX_LINES];
     read_report(frame, &mut names, &mut hashes)
 }

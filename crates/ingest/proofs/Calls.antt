@@ -1,7 +1,7 @@
 -- The call: which refusal it meets, row by row, and what it leaves.
 -- Assumes nothing.
-use mathlib.Core.Path.{◌≡◌, refl, ◌∙◌}
-use mathlib.Core.Bool.{Bool, true, false}
+use mathlib.Core.Path.{◌≡◌, refl, sym, ◌∙◌}
+use mathlib.Core.Bool.{Bool, true, false, cond}
 use mathlib.Core.List.{List, ◌∷◌}
 use Prim.Native.Nat.{ℕ, ◌≤◌, ◌<◌}
 use native.Mathlib.Omega.{arith}
@@ -11,9 +11,11 @@ use lib.ListN.{length}
 use Rattle.basics.proofs.Cases.{by-eq}
 use Rattle.frames.specs.Refusals.{Row, ◌if◌, first_of}
 use Rattle.frames.specs.Frames.{report_rows, report_refusal, report_lines}
-use Rattle.frames.proofs.Refusals.{first_holds, first_passes, first_some, first-none, first-zero, both_zero, first_le, append_le}
+use Rattle.frames.proofs.Refusals.{first_holds, first_passes, first_some, first-none, first-zero, both_zero, first_le, append_le, refusal-some}
 use Rattle.frames.proofs.Reports.{report-numbered}
 use Rattle.frames.proofs.Laws.{report_le}
+use Rattle.refusals.specs.declared.Refusal.{Refusal}
+use Rattle.refusals.specs.Numbers.{number_of}
 use Rattle.blocks.specs.Fields.{max_word}
 use Rattle.counters.specs.Counters.{Memory, wrong_counters}
 use Rattle.counters.proofs.Laws.{Right, right}
@@ -45,9 +47,17 @@ module _ (m : Memory) (f : List ℕ) where
     call-rest = first-none _ (report-numbered f) z
 
     -- 8: wrong counters
-    pub call_wrong : wrong_counters m.arena m.table m.counters ≡ true → call_refusal m f ≡ 8
+    call_wrong : wrong_counters m.arena m.table m.counters ≡ true → call_refusal m f ≡ 8
     unfolding row8
     call_wrong e = call-rest ∙ first_holds row8 _ e
+
+    -- a refusal that is numbered by row 8 is the call's
+    pub call-lent : (r : Refusal) → number_of r ≡ cond (wrong_counters m.arena m.table m.counters) 8 0 → number_of r ≡ call_refusal m f
+    call-lent r e = go (wrong_counters m.arena m.table m.counters) refl e
+      where
+        go : (b : Bool) → wrong_counters m.arena m.table m.counters ≡ b → number_of r ≡ cond b 8 0 → number_of r ≡ call_refusal m f
+        go true p q = q ∙ sym (call_wrong p)
+        go false p q = absurd (omega (arith, q, refusal-some r))
 
     module _ (w : wrong_counters m.arena m.table m.counters ≡ false) where
       -- 9: no number is left for another report

@@ -112,8 +112,16 @@ pub record Planned (m : Memory) (f : List ℕ) (plan : Plan) (n : ℕ) : Type 0 
   pub few_terms : plan.terms ≤ n
   pub few_blocks : plan.blocks ≤ n
 
-pub planned_none : (m : Memory) (f : List ℕ) → Planned m f (record { terms = 0; blocks = 0 }) 0
-planned_none m f = record { sound = refl; terms = omega arith; blocks = omega arith; few_terms = omega arith; few_blocks = omega arith }
+-- a plan of nothing is that of none
+pub planned_none : (m : Memory) (f : List ℕ) {plan : Plan} → (plan.terms ≡ 0) × (plan.blocks ≡ 0) → Planned m f plan 0
+planned_none m f z =
+    record {
+      sound = refl;
+      terms = omega (arith, z.0);
+      blocks = omega (arith, z.1);
+      few_terms = omega (arith, z.0);
+      few_blocks = omega (arith, z.1);
+    }
 
 module _ {m : Memory} {f : List ℕ} {plan : Plan} {n : ℕ} (w : Planned m f plan n) where
   -- where no line is left it is the plan of all

@@ -4,7 +4,6 @@
 ghost use Rattle.std.specs.Prelude.{◌≡◌, List, ℕ, Ok, OnOk, OnErr, IfOk, ◌+◌, ◌-◌, ◌≤◌, ◌<◌, length, get_or};
 ghost use Rattle.terms.specs.Terms.{max_term, fnv1a};
 ghost use Rattle.frames.specs.Frames.{max_body, lines, report_lines};
-ghost use Rattle.frames.specs.Read.{max_lines};
 ghost use Rattle.frames.specs.Refusals.{first_of};
 ghost use Rattle.blocks.specs.Fields.{max_word, place};
 ghost use Rattle.lookup.specs.Lookup.{slots, search};
@@ -16,8 +15,8 @@ ghost use Rattle.ingest.specs.Needs.{Room, HeadIs, Below, Held, with_place, need
 ghost use Rattle.ingest.specs.declared.Place.TheVariants.{New};
 
 use blocks::{Head, Used};
-use counters::Counters;
-use frames::{Line, Lines, MAX_LINES};
+use counters::{Counters, Lent};
+use frames::{Line, Lines, MAX_FRAME, MAX_LINES};
 use lookup::Found;
 use refusals::Refusal;
 
@@ -45,7 +44,7 @@ pub enum Place {
 }
 
 // What the lines need together.
-#[derive(Clone, Copy)]
+#[derive(Clone, Copy, Default)]
 pub struct Plan {
     pub terms: u32,
     pub blocks: u32,
@@ -166,8 +165,12 @@ impl Plan {
 // asked for before the first is compared: their loads miss the caches, and so they overlap. `kept` first has the entries
 // of these slots; an entry stays there for its line's turn where the term was found right there, else it becomes 0, which
 // stands for none as it does in the table.
-fn plan_lines(arena: Arena, table: &[u32], lines: Lines, kept: &mut [u32]) -> Result<Plan, Refusal>
-    requires { max_lines ≤ length kept.old }
+fn plan_lines(
+    arena: Arena,
+    table: &[u32],
+    lines: Lines,
+    kept: &mut [u32; MAX_LINES],
+) -> Result<Plan, Refusal>
     ensures plan { let m = memory arena.entry.bytes.now table.now arena.entry.k in
         Plans (lines_plan m (report_lines lines.entry.frame.now)) result }
     ensures kept { let m = memory arena.entry.bytes.now table.now arena.entry.k in
@@ -177,10 +180,7 @@ fn plan_lines(arena: Arena, table: &[u32], lines: Lines, kept: &mut [u32]) -> Re
     let mut lengths = [0u8; MAX_LINES];
     lookup::first_entries(table, lines.hashes, kept);
     lookup::first_lengths(used, &kept[..lines.hashes.len()], &mut lengths);
-    let mut plan = Plan {
-        terms: 0,
-        blocks: 0,
-    };
+    let mut plan = Plan::default();
     for (n, line) in lines.iter().enumerate() {
         let entry = kept[n];
         let found = lookup::find_from(used, table, line.name, entry, lengths[n]);
@@ -192,15 +192,16 @@ fn plan_lines(arena: Arena, table: &[u32], lines: Lines, kept: &mut [u32]) -> Re
 
 // Refusals 11 and 12 for what the lines need.
 #[tactic(auto, unfolding(crate::specs::Report::plan_rows, frames::specs::Refusals::first_of))]
-fn has_room(arena: Arena, table: &[u32], plan: Plan) -> Result<(), Refusal>
-    requires { (arena.k.terms ≤ max_terms table.now) × (plan.terms ≤ max_body) }
-    ensures { let m = memory arena.entry.bytes.now table.now arena.entry.k in
+fn has_room(lent: Lent, plan: Plan) -> Result<(), Refusal>
+    requires { plan.terms ≤ max_body }
+    ensures { let m = memory lent.entry.arena.now lent.entry.table.now lent.entry.counters in
         refused_under result ≡ first_of (plan_rows m (needed plan)) }
 {
-    if counters::max_terms(table) < arena.k.terms + plan.terms {
+    let k = lent.counters;
+    if counters::max_terms(lent.table) < k.terms + plan.terms {
         return Err(Refusal::TableFull);
     }
-    if blocks::capacity_of(arena.bytes) - arena.k.used < plan.blocks {
+    if blocks::capacity_of(lent.arena) - k.used < plan.blocks {
         return Err(Refusal::ArenaFull);
     }
     Ok(())
@@ -324,10 +325,9 @@ fn write_lines(
     table: &mut [u32],
     k: Counters,
     lines: Lines,
-    kept: &[u32],
+    kept: &[u32; MAX_LINES],
 ) -> Result<Counters, Stopped>
-    requires { let m = memory arena.old table.old k in
-        Held arena.old table.old k × (max_lines ≤ length kept.now) × Kept m lines.frame.now kept.now }
+    requires { Held arena.old table.old k × Kept (memory arena.old table.old k) lines.frame.now kept.now }
     ensures { wrote arena.new table.new result
         ≡ write_lines (memory arena.old table.old k) (k.reports + 1) (report_lines lines.entry.frame.now) }
 {
@@ -342,27 +342,22 @@ fn write_lines(
 
 // ---- the call
 
-// Refusals 8 to 12 of a sound frame. Where none holds, what its lines keep is in `kept`.
-fn judge_report(
-    arena: &[u8],
-    table: &[u32],
-    k: Counters,
-    lines: Lines,
-    kept: &mut [u32],
-) -> Result<(), Refusal>
-    requires { max_lines ≤ length kept.old }
-    ensures refused { refused_under result ≡ call_refusal (memory arena.now table.now k) lines.entry.frame.now }
-    ensures kept { OnOk result (Kept (memory arena.now table.now k) lines.entry.frame.now kept.new) }
+// Refusals 9 to 12 of a sound frame, past refusal 8. Where none holds, what its lines keep is in `kept`.
+fn judge_report(lent: Lent, lines: Lines, kept: &mut [u32; MAX_LINES]) -> Result<(), Refusal>
+    ensures refused { let m = memory lent.entry.arena.now lent.entry.table.now lent.entry.counters in
+        refused_under result ≡ call_refusal m lines.entry.frame.now }
+    ensures kept { let m = memory lent.entry.arena.now lent.entry.table.now lent.entry.counters in
+        OnOk result (Kept m lines.entry.frame.now kept.new) }
 {
-    if counters::are_wrong(arena, table, k) {
-        return Err(Refusal::WrongCounters);
-    }
-    if k.reports == u32::MAX {
+    if lent.counters.reports == u32::MAX {
         return Err(Refusal::NumbersSpent);
     }
-    let arena = Arena { bytes: arena, k };
-    let plan = plan_lines(arena, table, lines, kept)?;
-    has_room(arena, table, plan)
+    let arena = Arena {
+        bytes: lent.arena,
+        k: lent.counters,
+    };
+    let plan = plan_lines(arena, lent.table, lines, kept)?;
+    has_room(lent, plan)
 }
 
 // Refusals 1 to 12, before a byte is written; else what writing the lines comes to.
@@ -376,11 +371,12 @@ fn judge_and_write(
     ensures untouched { OnErr result ((arena.new ≡ arena.old) × (table.new ≡ table.old)) }
     ensures written { IfOk result (λ w. wrote arena.new table.new w ≡ write_lines (memory arena.old table.old k) (k.reports + 1) (report_lines frame.now)) }
 {
-    let mut names = [0u8; 4100];
+    let mut names = [0u8; MAX_FRAME];
     let mut hashes = [0u32; MAX_LINES];
     let mut kept = [0u32; MAX_LINES];
     let lines = Lines::read(frame, &mut names, &mut hashes)?;
-    judge_report(arena, table, k, lines, &mut kept)?;
+    let lent = Lent::new(arena, table, k)?;
+    judge_report(lent, lines, &mut kept)?;
     Ok(write_lines(arena, table, k, lines, &kept))
 }
 

@@ -7,7 +7,7 @@ ghost use Rattle.terms.specs.Terms.{max_term};
 ghost use Rattle.frames.specs.Frames.{first_term, terms, passes_end, bad_term};
 
 use counters::Counters;
-use frames::{Cursors, Kind, Lines, MAX_LINES, Query};
+use frames::{Cursors, Kind, Lines, MAX_FRAME, MAX_LINES, Query};
 use ingest::ReportAnswer;
 use query::ListAnswer;
 use refusals::Refusal;
@@ -119,7 +119,7 @@ fn print_refusal(rt: &impl Print, refusal: Refusal) -> io::Result<()> {
 
 // The folded terms of a sound report with their counts.
 fn report_frame(rt: &impl Print, frame: &[u8]) -> io::Result<()> {
-    let mut names = [0u8; 4099];
+    let mut names = [0u8; MAX_FRAME];
     let mut hashes = [0u32; MAX_LINES];
     match Lines::read(frame, &mut names, &mut hashes) {
         Err(refusal) => print_refusal(rt, refusal),
@@ -283,15 +283,7 @@ fn cut<'a>(s: &'a [u8]) -> Option<(&'a [u8], &'a [u8])>
     let [high, low, behind @ ..] = s else {
         return None;
     };
-    behind.split_at_checked(usize::from(*high) * 256 + usize::from(*low))
-}
-
-// Two bytes as a number.
-fn read_pair(s: &[u8], at: usize) -> usize
-    requires { at + 2 ≤ length s.now }
-    ensures { result < 65536 }
-{
-    usize::from(s[at]) * 256 + usize::from(s[at + 1])
+    behind.split_at_checked(basics::pair(*high, *low))
 }
 
 fn print_refused(rt: &impl Print, refusal: u8) -> io::Result<()> {
@@ -328,51 +320,47 @@ fn print_listed(
     Ok(())
 }
 
-// The call of a kind; another kind is left out.
+// The call of a kind, with so many places in each list.
 fn call(
     rt: &impl Print,
     arena: &mut [u8],
     table: &mut [u32],
     k: Counters,
-    kind: u8,
+    kind: Kind,
     frame: &[u8],
-    places: usize,
-) -> io::Result<Counters>
-    requires { places ≤ 256 }
-{
+    places: u8,
+) -> io::Result<Counters> {
     let mut numbers = [0u32; 256];
     let mut counts = [0u32; 256];
-    let numbers = &mut numbers[..places];
-    let counts = &mut counts[..places];
-    match Kind::try_from(kind) {
-        Ok(Kind::Report) => {
+    let numbers = &mut numbers[..usize::from(places)];
+    let counts = &mut counts[..usize::from(places)];
+    match kind {
+        Kind::Report => {
             let taken = ingest::take_report(arena, table, k, frame);
             print_taken(rt, taken.answer)?;
             return Ok(taken.counters);
         }
-        Ok(Kind::One) => {
+        Kind::One => {
             let answer = query::list_one(arena, table, k, frame, numbers, counts);
             print_listed(rt, answer, numbers, Some(counts))?;
         }
-        Ok(Kind::All) => {
+        Kind::All => {
             let answer = query::list_all(arena, table, k, frame, numbers);
             print_listed(rt, answer, numbers, None)?;
         }
-        Err(_) => {}
     }
     Ok(k)
 }
 
-// The calls one after another: a null byte for a start, else the kind, two bytes of length and the frame.
+// The calls one after another: a null byte for a start, else the kind, two bytes of length and the frame. A frame of
+// another kind is passed over.
 fn run_calls(
     rt: &impl Print,
     arena: &mut [u8],
     table: &mut [u32],
     calls: &[u8],
-    places: usize,
-) -> io::Result<Counters>
-    requires { places ≤ 256 }
-{
+    places: u8,
+) -> io::Result<Counters> {
     let mut k = Counters::default();
     let mut left = calls;
     while let [kind, behind @ ..] = left {
@@ -386,8 +374,10 @@ fn run_calls(
         let Some((frame, others)) = cut(behind) else {
             break;
         };
-        k = call(rt, arena, table, k, *kind, frame, places)?;
         left = others;
+        if let Ok(kind) = Kind::try_from(*kind) {
+            k = call(rt, arena, table, k, kind, frame, places)?;
+        }
     }
     Ok(k)
 }
@@ -409,10 +399,8 @@ fn calls_on(
     arena: &mut [u8],
     table: &mut [u32],
     calls: &[u8],
-    places: usize,
-) -> io::Result<()>
-    requires { places ≤ 256 }
-{
+    places: u8,
+) -> io::Result<()> {
     let k = run_calls(rt, arena, table, calls, places)?;
     print(rt, " |")?;
     print_word(rt, k.used)?;
@@ -427,9 +415,9 @@ fn calls(rt: &impl Print, payload: &[u8]) -> io::Result<()> {
     if payload.len() < 5 {
         return Ok(());
     }
-    let blocks = read_pair(payload, 0);
-    let entries = read_pair(payload, 2);
-    let places = usize::from(payload[4]);
+    let blocks = basics::pair(payload[0], payload[1]);
+    let entries = basics::pair(payload[2], payload[3]);
+    let places = payload[4];
     if 24 < blocks || 64 < entries {
         return Ok(());
     }

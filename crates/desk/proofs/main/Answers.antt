@@ -12,7 +12,7 @@ turns-init c = record {
   input_size = refl;
   out_size = refl;
   room = omega arith;
-  reached = reached-start _ _ refl refl (replicate 65536 0);
+  reached = reached-start _ _ c.default-counters.result refl refl c.default-counters.ensures (replicate 65536 0);
 }
 
 -- the lines of all turns are the whole output of what was read

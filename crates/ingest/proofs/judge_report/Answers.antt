@@ -9,44 +9,36 @@ use Rattle.counters.proofs.Laws.{right}
 use Rattle.ingest.specs.Report.{Needed, plan_rows, lines_plan}
 use Rattle.ingest.proofs.Plans.{plan_damaged}
 use Rattle.ingest.proofs.Writing.{held_right}
-use Rattle.ingest.proofs.Calls.{call_wrong, call-last, call_plan}
+use Rattle.ingest.proofs.Calls.{call-last, call_plan}
 use Rattle.ingest.proofs.judge_report.Goals as goal
 
-pub returns-then-are_wrong-clause-refused : goal.returns-then-are_wrong-clause-refused
-returns-then-are_wrong-clause-refused c =
-    let m = memory c.args.arena.now c.args.table.now c.args.k in
-    sym (call_wrong m c.args.lines.frame.now c.args.lines.sound (sym c.are_wrong.ensures ∙ c.if-are_wrong.true))
-
-pub returns-then-k-eq4294967295-clause-refused : goal.returns-then-k-eq4294967295-clause-refused
-returns-then-k-eq4294967295-clause-refused c =
-    let m = memory c.args.arena.now c.args.table.now c.args.k in
-    sym (call-last m c.args.lines.frame.now c.args.lines.sound (sym c.are_wrong.ensures ∙ c.if-are_wrong.false) c.if-k-eq4294967295.true)
+pub returns-then-lent-eq4294967295-clause-refused : goal.returns-then-lent-eq4294967295-clause-refused
+returns-then-lent-eq4294967295-clause-refused c =
+    let l = c.args.lent in
+    let m = memory l.arena.now l.table.now l.counters in
+    sym (call-last m c.args.lines.frame.now c.args.lines.sound l.right c.if-lent-eq4294967295.true)
 
 pub invariant_of-arena : goal.invariant_of-arena
 invariant_of-arena c =
-    let m = memory c.args.arena.now c.args.table.now c.args.k in
-    let fine = right m.arena m.table m.counters (sym c.are_wrong.ensures ∙ c.if-are_wrong.false) in
-    record { fits = λ i. (c.type_inv.arena i).fits; room = (held_right m fine c.if-k-eq4294967295.false (omega arith)).room }
+    let l = c.args.lent in
+    let m = memory l.arena.now l.table.now l.counters in
+    record { fits = l.fits; room = (held_right m (right _ _ _ l.right) c.if-lent-eq4294967295.false (omega arith)).room }
 
 pub returns-in_err-plan-clause-refused : goal.returns-in_err-plan-clause-refused
 returns-in_err-plan-clause-refused c =
-    let m = memory c.args.arena.now c.args.table.now c.args.k in
+    let l = c.args.lent in
+    let m = memory l.arena.now l.table.now l.counters in
     let f = c.args.lines.frame.now in
     let p = err_from_is_err_and c.from_residual.result c.from_residual.ensures.1 in
     rw (p.1, p.2, c.in_err-plan.ensures.plan.0)
-    (sym (call_plan m f c.args.lines.sound (sym c.are_wrong.ensures ∙ c.if-are_wrong.false) c.if-k-eq4294967295.false
+    (sym (call_plan m f c.args.lines.sound l.right c.if-lent-eq4294967295.false
     ∙ plan_damaged m (lines_plan m (report_lines f)) c.in_err-plan.ensures.plan.1))
-
-pub has_room-requires : goal.has_room-requires
-has_room-requires c =
-    let m = memory c.args.arena.now c.args.table.now c.args.k in
-    let fine = right m.arena m.table m.counters (sym c.are_wrong.ensures ∙ c.if-are_wrong.false) in
-    (fine.few, c.in_ok-plan.ensures.plan.1)
 
 pub returns-clause-refused : goal.returns-clause-refused
 returns-clause-refused c =
-    let m = memory c.args.arena.now c.args.table.now c.args.k in
+    let l = c.args.lent in
+    let m = memory l.arena.now l.table.now l.counters in
     let f = c.args.lines.frame.now in
     c.has_room.ensures
-    ∙ sym (call_plan m f c.args.lines.sound (sym c.are_wrong.ensures ∙ c.if-are_wrong.false) c.if-k-eq4294967295.false
+    ∙ sym (call_plan m f c.args.lines.sound l.right c.if-lent-eq4294967295.false
     ∙ ap (λ (n : Needed). first_of (plan_rows m n)) c.in_ok-plan.ensures.plan.0)

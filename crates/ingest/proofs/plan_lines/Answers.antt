@@ -3,7 +3,7 @@ use mathlib.Core.Path.{◌≡◌, refl, sym, ap, ◌∙◌}
 use native.Mathlib.Omega.{arith}
 use lib.ListN.{length, get_or}
 use Rattle.std.proofs.lemmas.Result.{err_from_is_err_and}
-use Rattle.std.proofs.lemmas.List.{length_push, length-take, length-take-le, get_or-take}
+use Rattle.std.proofs.lemmas.List.{length_push, length-take-le, get_or-take}
 use Rattle.terms.specs.Terms.{fnv1a}
 use Rattle.frames.proofs.Laws.{sound-some}
 use Rattle.lookup.specs.Lookup.{search as sought, first_entry, length_behind, first_hit}
@@ -14,13 +14,6 @@ use Rattle.ingest.proofs.Plans.{planned_none, planned_end, planned_stop, planned
 use Rattle.ingest.proofs.Keeping.{read_kept, keeps-none, keeps_more, keeps-all}
 use Rattle.ingest.proofs.plan_lines.Goals as goal
 
-pub first_entries-requires : goal.first_entries-requires
-first_entries-requires c = omega (arith, c.args.lines.few, c.requires)
-
-pub first_lengths-requires : goal.first_lengths-requires
-first_lengths-requires c =
-    omega (arith, c.args.lines.few, length-take (length c.args.lines.hashes.now) c.first_entries.new.entries)
-
 pub loop-n-init : goal.loop-n-init
 loop-n-init c =
     let m = memory c.args.arena.bytes.now c.args.table.now c.args.arena.k in
@@ -28,14 +21,14 @@ loop-n-init c =
       all = all_left c.args.lines c.iter-line-items.ensures;
       counted = refl;
       near = omega arith;
-      plan = planned_none m c.args.lines.frame.now;
+      plan = planned_none m c.args.lines.frame.now c.default-plan.ensures;
       keeps = keeps-none m c.args.lines.frame.now _;
     }
 
 pub bounds-kept-n : goal.bounds-kept-n
 bounds-kept-n c =
     let t = line_turn c.args.lines c.loop-n.invariant.all _ _ c.loop-n.yielded_by _ c.next.new.self c.next.ensures.steps c.loop-n.invariant.counted c.in-Some.is in
-    omega (arith, t.enough, c.args.lines.few, c.requires)
+    omega (arith, t.enough, c.args.lines.few)
 
 pub bounds-lengths-n : goal.bounds-lengths-n
 bounds-lengths-n c =
@@ -51,14 +44,14 @@ find_from-found-requires c =
     let left : get_or c.loop-n.kept n 0 ≡ get_or c.first_entries.new.entries n 0 = c.loop-n.invariant.keeps.left n (omega arith) in (
       rw t.name (sound-some t.stands.sound h),
       left ∙ c.first_entries.ensures.each n t.enough ∙ ap (first_entry a.table.now) t.nth,
-      c.first_lengths.ensures.each n (omega (arith, t.enough, length-take-le (length a.lines.hashes.now) c.first_entries.new.entries (omega (arith, a.lines.few, c.requires))))
+      c.first_lengths.ensures.each n (omega (arith, t.enough, length-take-le (length a.lines.hashes.now) c.first_entries.new.entries (omega (arith, a.lines.few))))
           ∙ ap (length_behind c.used-used.result.arena.now c.used-used.result.blocks) (get_or-take _ _ n 0 t.enough ∙ sym left),
     )
 
 pub bounds-kept-n-in-loop-n : goal.bounds-kept-n-in-loop-n
 bounds-kept-n-in-loop-n c =
     let t = line_turn c.args.lines c.loop-n.invariant.all _ _ c.loop-n.yielded_by _ c.next.new.self c.next.ensures.steps c.loop-n.invariant.counted c.in-Some.is in
-    omega (arith, t.enough, c.args.lines.few, c.requires)
+    omega (arith, t.enough, c.args.lines.few)
 
 pub returns-in_err-found-clause-plan : goal.returns-in_err-found-clause-plan
 returns-in_err-found-clause-plan c =
@@ -107,7 +100,7 @@ loop-n-preserved c =
       near = omega (arith, t.enough);
       plan = rw c.with-plan.ensures
           (planned_more v.plan _ (lines_more t.stands t.counted) (place ∙ sym c.place_found.ensures ∙ c.in_ok-place_found.was));
-      keeps = (keeps_more v.keeps c.first_hit.result (omega (arith, t.enough, c.args.lines.few, c.requires)) (hit ∙ read_kept m c.args.lines.frame.now _ t.name));
+      keeps = (keeps_more v.keeps c.first_hit.result (omega (arith, t.enough, c.args.lines.few)) (hit ∙ read_kept m c.args.lines.frame.now _ t.name));
     }
 
 pub returns-clause-plan : goal.returns-clause-plan

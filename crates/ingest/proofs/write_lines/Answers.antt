@@ -33,7 +33,7 @@ write_line-requires c =
     let is : line_of x.name.bytes.now x.count ≡ line_at a.lines.frame.now (offset a.lines _) = read-line a.lines.frame.now _ t.0.name t.0.count in (
       c.loop-line.invariant.wrote.held,
       λ low z. kept_found c.loop-line.invariant.lasts c.requires.0 (line_of x.name.bytes.now x.count) x.name.short _
-          (t.1 ∙ c.requires.2.each _ t.0.counted ∙ ap (kept_of m) (sym is)) low z,
+          (t.1 ∙ c.requires.1.each _ t.0.counted ∙ ap (kept_of m) (sym is)) low z,
     )
 
 pub returns-in_err-left : goal.returns-in_err-left
@@ -58,5 +58,5 @@ loop-line-preserved c =
 pub returns : goal.returns
 returns c =
     let a = c.args.lines in
-    let end = entries_end a c.args.kept.now c.loop-line.invariant.along _ _ c.loop-line.yielded_by _ c.next.new.self c.next.ensures.steps c.in-None.is (omega (arith, a.few, hashes_long a, c.requires.1)) in
+    let end = entries_end a c.args.kept.now c.loop-line.invariant.along _ _ c.loop-line.yielded_by _ c.next.new.self c.next.ensures.steps c.in-None.is (omega (arith, a.few, hashes_long a)) in
     wrote_end c.loop-line.invariant.wrote (lines_done a.frame.now _ end)

@@ -1,5 +1,4 @@
 -- Where the loop stands a whole field stands, whose term is one, and behind it the frame is as sound as before.
-use Rattle.std.proofs.Common.{◌≡◌, refl}
 use Rattle.frames.proofs.Fields.{field_here, field_term, whole-on}
 use Rattle.frames.proofs.Conditions.{good_here, good_on}
 use Rattle.frames.proofs.Walk.{over-first, over-turn}
