@@ -63,6 +63,11 @@ struct Turn<'a> {
     kept: u32,
 }
 
+// Which blocks a posting was put into as tails. A mark serves many blocks, so that a fixed number of them is enough.
+const MARKS: usize = 1024;
+
+type Marks = [bool; MARKS];
+
 // ---- where a line goes
 
 // An arena with its counters, past refusals 8 and 9: the used blocks lie in it, and another report can be numbered. What a
@@ -210,13 +215,13 @@ fn has_room(lent: Lent, plan: Plan) -> Result<(), Refusal>
 // ---- writing
 
 // Marks a tail that a posting was put into, unless it is the chain's head: in a damaged arena it may be another term's
-// head, which may now hold another name. Each mark serves many blocks, so that a fixed number of them is enough.
+// head, which may now hold another name.
 #[tactic(auto, unfolding(crate::specs::Kept::mark_tail))]
-fn mark_tail(marks: &mut [bool; 1024], h: u32, tail: u32)
+fn mark_tail(marks: &mut Marks, h: u32, tail: u32)
     ensures { marks.new ≡ mark_tail marks.old h tail }
 {
     if tail != h {
-        marks[(tail % 1024) as usize] = true;
+        marks[tail as usize % MARKS] = true;
     }
 }
 
@@ -227,7 +232,7 @@ fn append_line(
     k: Counters,
     h: u32,
     count: u32,
-    marks: &mut [bool; 1024],
+    marks: &mut Marks,
 ) -> Result<Counters, Stopped>
     requires { Room arena.old k × (h < k.used) }
     ensures line { (t w : List ℕ) → k.terms ≤ max_terms t
@@ -282,13 +287,13 @@ fn open_line(
 
 // Looks a line's term up again at its turn. The head that a kept entry leads to still holds the term unless it is marked,
 // so that the search is left out there.
-fn find_again(used: Used, table: &[u32], turn: Turn, marks: &[bool; 1024]) -> Result<Found, Refusal>
+fn find_again(used: Used, table: &[u32], turn: Turn, marks: &Marks) -> Result<Found, Refusal>
     requires { KeptRight used.arena.now used.blocks table.now turn.line.name.bytes.now turn.kept marks.now }
     ensures { result ≡ search used.entry.arena.now used.entry.blocks table.now turn.entry.line.name.bytes.now }
 {
     if 0 < turn.kept {
         let h = turn.kept - 1;
-        if !marks[(h % 1024) as usize] {
+        if !marks[h as usize % MARKS] {
             return Ok(Found::At(h));
         }
     }
@@ -301,7 +306,7 @@ fn write_line(
     table: &mut [u32],
     k: Counters,
     turn: Turn,
-    marks: &mut [bool; 1024],
+    marks: &mut Marks,
 ) -> Result<Counters, Stopped>
     requires { Held arena.old table.old k × KeptRight arena.old k.used table.old turn.line.name.bytes.now turn.kept marks.old }
     ensures line { let m = memory arena.old table.old k in
@@ -331,7 +336,7 @@ fn write_lines(
     ensures { wrote arena.new table.new result
         ≡ write_lines (memory arena.old table.old k) (k.reports + 1) (report_lines lines.entry.frame.now) }
 {
-    let mut marks = [false; 1024];
+    let mut marks = [false; MARKS];
     let mut left = k;
     for (line, kept) in lines.iter().zip(kept) {
         let turn = Turn { line, kept: *kept };
