@@ -218,6 +218,7 @@ pub fn append_posting(arena: &mut [u8], h: u32, b: u32, number: u32, count: u32)
 }
 
 // The twelve marked cases of document 01 hold under the definitions.
+#[tactic(auto, using(crate::proofs::Marked::marked_right_lem))]
 pub fn marked_cases_hold()
     ensures { marked_right ≡ true }
 {}
