@@ -11,6 +11,6 @@ use Rattle.blocks.specs.Fields.{link_of, head_of, part_of}
 use Rattle.blocks.specs.Writes.{padded, changing, head_bytes, open_head, fits, add_to, join_to, append}
 use Rattle.blocks.specs.Marked.{cases, grown, right, marked_right}
 
-pub marked_right_lem : marked_right ≡ true
+pub marked_cases_right : marked_right ≡ true
 unfolding marked_right cases marked all same coding.right finds right grown word word_at groups vbyte code onto value at_most second first decoded link_of head_of part_of padded changing head_bytes open_head fits add_to join_to append
-marked_right_lem = refl
+marked_cases_right = refl

@@ -218,7 +218,7 @@ pub fn append_posting(arena: &mut [u8], h: u32, b: u32, number: u32, count: u32)
 }
 
 // The twelve marked cases of document 01 hold under the definitions.
-#[tactic(auto, using(crate::proofs::Marked::marked_right_lem))]
+#[tactic(auto, using(crate::proofs::Marked::marked_cases_right))]
 pub fn marked_cases_hold()
     ensures { marked_right ≡ true }
 {}
