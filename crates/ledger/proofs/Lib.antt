@@ -1,3 +1,4 @@
+pub mod Words
 pub mod Ask
 pub mod Holds
 pub mod Plan

@@ -10,6 +10,7 @@ use Rattle.frames.specs.Refusals.{first_of}
 use Rattle.frames.specs.Frames.{lines, folded_at, line_at, repeats_after, repeated_term, report_refusal, report_lines}
 use Rattle.frames.proofs.Laws.{SoundReport, sound-report, line-term}
 use Rattle.ledger.specs.Ledger.{Report, ledger_rows, enter_report}
+use Rattle.ledger.proofs.Words.{lines_same}
 use Rattle.ledger.proofs.Reports.{entered-sound}
 use Rattle.ledger.proofs.Listing.{terms_in, Distinct, distinct_more}
 
@@ -27,5 +28,5 @@ pub entered_distinct : (b e : ℕ) (rs : List Report) (f : List ℕ) → Distinc
 unfolding enter_report
 entered_distinct b e rs f d =
     by-eq (first_of (ledger_rows b e rs f)) 0
-    (λ z. rw (eq-eqb (first_of (ledger_rows b e rs f)) 0 z) (distinct_more (report_lines f) d (frame_distinct f (entered-sound b e rs f z))))
+    (λ z. rw (eq-eqb (first_of (ledger_rows b e rs f)) 0 z) (rw (lines_same f) (distinct_more (report_lines f) d (frame_distinct f (entered-sound b e rs f z)))))
     (λ n. rw (ne_eqb (first_of (ledger_rows b e rs f)) 0 n) d)

@@ -21,6 +21,7 @@ use Rattle.query.specs.Listing.{read_term, postings_in, damaged_terms, list_rows
 use Rattle.query.specs.Listing as query
 use Rattle.ledger.specs.Ledger.{Report, postings_of, listed}
 use Rattle.ledger.specs.Calls.{ledger_one, ledger_all}
+use Rattle.ledger.proofs.Words.{named_same, start_same, two_same, list_same}
 use Rattle.ledger.proofs.Listing.{Distinct, common-listed}
 
 -- every term reads as its postings, and no report names a term twice
@@ -80,12 +81,12 @@ module _ {m : Memory} {rs : List Report} (h : Reads m rs) (f : List ℕ) where
   unfolding list_one_call ledger_one
   one_agrees numbers counts =
       by-eq (query_refusal 2 1 f) 0
-      (λ z. rw (refusal_agrees 2 1, eq-eqb (query_refusal 2 1 f) 0 z, matches_agree 2 1 z))
+      (λ z. rw (refusal_agrees 2 1, eq-eqb (query_refusal 2 1 f) 0 z, matches_agree 2 1 z, start_same f, named_same f, two_same))
       (λ n. rw (refusal_agrees 2 1, ne_eqb (query_refusal 2 1 f) 0 n))
 
   pub all_agrees : (numbers : List ℕ) → list_all_call m f numbers ≡ ledger_all rs f numbers
   unfolding list_all_call ledger_all
   all_agrees numbers =
       by-eq (query_refusal 3 8 f) 0
-      (λ z. rw (refusal_agrees 3 8, eq-eqb (query_refusal 3 8 f) 0 z, matches_agree 3 8 z))
+      (λ z. rw (refusal_agrees 3 8, eq-eqb (query_refusal 3 8 f) 0 z, matches_agree 3 8 z, start_same f, named_same f, list_same))
       (λ n. rw (refusal_agrees 3 8, ne_eqb (query_refusal 3 8 f) 0 n))

@@ -10,7 +10,7 @@ use lib.ListN.{length, length-append, replicate}
 use borrow.Author.Tests.{lt-ltb, le-ltb, ltb-false, eq-eqb, ne_eqb, eqb-false}
 use Rattle.basics.proofs.Cases.{by-lt, by-eq}
 use Rattle.frames.specs.Refusals.{◌if◌, first_of}
-use Rattle.frames.specs.Frames.{report_rows, report_refusal, report_lines}
+use Rattle.frames.specs.Frames.{report_rows, report_refusal}
 use Rattle.frames.proofs.Reports.{report-numbered}
 use Rattle.frames.proofs.Refusals.{first_some, first-none, first-zero, both_zero}
 use Rattle.blocks.specs.Fields.{max_word, blocks_in, capacity}
@@ -19,7 +19,7 @@ use Rattle.lookup.specs.Lookup.{slots_in, slots}
 use Rattle.counters.specs.Counters.{Memory, memory, max_terms, wrong_counters}
 use Rattle.ingest.specs.Report.{plan_rows, lines_plan, Writing, write_lines, call_rows, call_refusal, Called, ended, report_call}
 use Rattle.layout.specs.Index.{Index, used_of}
-use Rattle.ledger.specs.Ledger.{Report, names, prescribed_blocks, earlier_rows, ledger_rows, Entered, enter_report}
+use Rattle.ledger.specs.Ledger.{Report, lines_of, names, prescribed_blocks, earlier_rows, ledger_rows, Entered, enter_report}
 use Rattle.ledger.specs.Grown.{take_lines, take_reports, grown, GoodLines, GoodReports, no_report}
 use Rattle.ledger.specs.Calls.{Bytes}
 use Rattle.ledger.proofs.Holds.{held, grown-terms, grown_held, last_le, grown-used, grown_housed, grown-linked, grown-snoc, good_snoc, Earlier, earlier_all}
@@ -27,10 +27,11 @@ use Rattle.ledger.proofs.Plan.{needs, news, over, used-lines, terms-lines}
 use Rattle.ledger.proofs.Rep.{Rep, rep_start, length-entries}
 use Rattle.ledger.proofs.Writing.{plan_is, Written, lines_rep}
 use Rattle.ledger.proofs.Frames.{report_good}
+use Rattle.ledger.proofs.Words.{lines_same}
 
 -- ---- the ledger's table: the rows of a report's frame, and then 9, 11 and 12
 
-pub rows_are : (bytes entries : ℕ) (rs : List Report) (f : List ℕ) → let more = rs ++ (report_lines f ∷ []) in ledger_rows bytes entries rs f
+pub rows_are : (bytes entries : ℕ) (rs : List Report) (f : List ℕ) → let more = rs ++ (lines_of f ∷ []) in ledger_rows bytes entries rs f
     ≡ report_rows f ++ ((9 if eqb (length rs) max_word) ∷ (11 if ltb (slots_in entries / 2) (length (names more))) ∷ (12 if ltb (blocks_in bytes) (prescribed_blocks more)) ∷ [])
 unfolding ledger_rows earlier_rows
 rows_are bytes entries rs f = append_assoc (report_rows f) _ _
@@ -85,39 +86,39 @@ module _ {m : Memory} {rs : List Report} (s : StandsFor m rs) where
 
   module _ (f : List ℕ) (bytes : Bytes f) where
     abbrev more : List Report
-    more = rs ++ (report_lines f ∷ [])
+    more = rs ++ (lines_of f ∷ [])
 
-    earlier : Earlier (length rs + 1) (grown rs).terms (report_lines f)
-    earlier = earlier_all (length rs + 1) (grown rs).terms (λ v. omega (arith, numbers_low v)) (report_lines f)
+    earlier : Earlier (length rs + 1) (grown rs).terms (lines_of f)
+    earlier = earlier_all (length rs + 1) (grown rs).terms (λ v. omega (arith, numbers_low v)) (lines_of f)
 
     module _ (z : report_refusal f ≡ 0) where
-      lines_good : GoodLines (report_lines f)
-      lines_good = report_good f bytes z
+      lines_good : GoodLines (lines_of f)
+      lines_good = rw (lines_same f) (report_good f bytes z)
 
       -- the different terms then, as they are counted
-      names_more : m.counters.terms + over (news (grown rs).terms) (report_lines f) ≡ length (names more)
+      names_more : m.counters.terms + over (news (grown rs).terms) (lines_of f) ≡ length (names more)
       names_more =
           omega (
             arith,
             s.rep.terms_is,
             terms-lines (grown rs) (length rs + 1) lines_good,
-            ap (λ (i : Index). length i.terms) (grown-snoc rs (report_lines f)),
+            ap (λ (i : Index). length i.terms) (grown-snoc rs (lines_of f)),
             grown-terms more,
           )
 
       -- the blocks then
-      blocks_more : length rs < max_word → m.counters.used + over (needs (length rs + 1) (grown rs).terms) (report_lines f) ≡ prescribed_blocks more
+      blocks_more : length rs < max_word → m.counters.used + over (needs (length rs + 1) (grown rs).terms) (lines_of f) ≡ prescribed_blocks more
       blocks_more h =
           omega (
             arith,
             s.rep.used_is,
             used-lines (grown rs) (length rs + 1) lines_good,
-            ap used_of (grown-snoc rs (report_lines f)),
+            ap used_of (grown-snoc rs (lines_of f)),
             grown-used more (grown-linked (good_snoc s.good lines_good) (rw length-append (omega arith))),
           )
 
       rows_as : (b : Bool) → eqb (length rs) max_word ≡ b
-          → first_of ((8 if wrong_counters m.arena m.table m.counters) ∷ (9 if eqb m.counters.reports max_word) ∷ plan_rows m (lines_plan m (report_lines f)))
+          → first_of ((8 if wrong_counters m.arena m.table m.counters) ∷ (9 if eqb m.counters.reports max_word) ∷ plan_rows m (lines_plan m (lines_of f)))
           ≡ first_of ((9 if eqb (length rs) max_word) ∷ (11 if ltb (slots_in (length m.table) / 2) (length (names more)))
           ∷ (12 if ltb (blocks_in (length m.arena)) (prescribed_blocks more)) ∷ [])
       unfolding first_of plan_rows max_terms slots capacity
@@ -131,7 +132,7 @@ module _ {m : Memory} {rs : List Report} (s : StandsFor m rs) where
             s.rep.reports_is,
             e,
             names_more,
-            shift (blocks_in (length m.arena)) m.counters.used (over (needs (length rs + 1) (grown rs).terms) (report_lines f)) u,
+            shift (blocks_in (length m.arena)) m.counters.used (over (needs (length rs + 1) (grown rs).terms) (lines_of f)) u,
             blocks_more h,
           )
 
@@ -139,7 +140,7 @@ module _ {m : Memory} {rs : List Report} (s : StandsFor m rs) where
     pub refusal_is : call_refusal m f ≡ first_of (ledger_rows (length m.arena) (length m.table) rs f)
     unfolding call_refusal call_rows report_refusal
     refusal_is =
-        rw rows_are
+        rw (rows_are, ← (lines_same f))
         (by-eq (first_of (report_rows f)) 0
         (λ z. first-none _ (report-numbered f) z ∙ rows_as z (eqb (length rs) max_word) refl ∙ sym (first-none _ (report-numbered f) z))
         (λ z. first_some (report_rows f) _ (omega arith) ∙ sym (first_some (report_rows f) _ (omega arith))))
@@ -167,27 +168,27 @@ module _ {m : Memory} {rs : List Report} (s : StandsFor m rs) where
             blocks = ltb-false (blocks_in (length m.arena)) (prescribed_blocks more) r₁₂.0;
           }
 
-      lines-written : Written m (write_lines m (length rs + 1) (report_lines f)) (take_lines (grown rs) (length rs + 1) (report_lines f)) (length rs)
+      lines-written : Written m (write_lines m (length rs + 1) (lines_of f)) (take_lines (grown rs) (length rs + 1) (lines_of f)) (length rs)
       lines-written =
-          let g : GoodLines (report_lines f) = lines_good room.sound in
+          let g : GoodLines (lines_of f) = lines_good room.sound in
           lines_rep m (grown rs) (length rs) s.rep room.numbers g earlier
           (omega (arith, room.blocks, blocks_more room.sound room.numbers, used-lines (grown rs) (length rs + 1) g, s.rep.used_is))
           (omega (arith, room.terms, names_more room.sound, terms-lines (grown rs) (length rs + 1) g, s.rep.terms_is))
 
       abbrev taken : Entered
-      taken = record { answer = record { refusal = 0; number = length rs + 1 }; reports = rs ++ (report_lines f ∷ []) }
+      taken = record { answer = record { refusal = 0; number = length rs + 1 }; reports = rs ++ (lines_of f ∷ []) }
 
-      taken_steps : (k : ℕ) → k ≡ length rs + 1 → Steps m (ended k (write_lines m k (report_lines f))) taken
+      taken_steps : (k : ℕ) → k ≡ length rs + 1 → Steps m (ended k (write_lines m k (lines_of f))) taken
       unfolding ended
       taken_steps k e =
-          let w : Writing = write_lines m (length rs + 1) (report_lines f) in
-          let count : length more ≡ length rs + 1 = length-append rs (report_lines f ∷ []) in
-          let r : Rep (counted w.left (length rs + 1)) (take_lines (grown rs) (length rs + 1) (report_lines f)) (length rs + 1) =
+          let w : Writing = write_lines m (length rs + 1) (lines_of f) in
+          let count : length more ≡ length rs + 1 = length-append rs (lines_of f ∷ []) in
+          let r : Rep (counted w.left (length rs + 1)) (take_lines (grown rs) (length rs + 1) (lines_of f)) (length rs + 1) =
           numbered lines-written.wrote.rep (length rs + 1) in
           rw (e, lines-written.goes_on) (record {
             answer = refl;
             stands = record {
-              rep = rw (count, grown-snoc rs (report_lines f)) r;
+              rep = rw (count, grown-snoc rs (lines_of f)) r;
               good = good_snoc s.good (lines_good room.sound);
               small = rw count (omega (arith, room.numbers));
             };
@@ -201,7 +202,7 @@ module _ {m : Memory} {rs : List Report} (s : StandsFor m rs) where
     report_step =
         let r : ℕ = first_of (ledger_rows (length m.arena) (length m.table) rs f) in
         by-eq r 0
-        (λ z. rw (refusal_is, eq-eqb r 0 z) (taken_steps z (m.counters.reports + 1) (ap (λ (k : ℕ). k + 1) s.rep.reports_is)))
+        (λ z. rw (refusal_is, eq-eqb r 0 z, ← (lines_same f)) (taken_steps z (m.counters.reports + 1) (ap (λ (k : ℕ). k + 1) s.rep.reports_is)))
         (λ z. rw (refusal_is, ne_eqb r 0 z) (record { answer = refl; stands = s; arena_kept = refl; table_kept = refl }))
 
 -- A START: any arena, a table of nulls, and counters of 0 stand for the empty ledger

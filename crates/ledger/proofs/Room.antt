@@ -10,16 +10,16 @@ use borrow.Author.Tests.{lt-ltb, le-ltb, eq-eqb, ne_eqb}
 use Rattle.basics.specs.Lists.{all}
 use Rattle.basics.proofs.Cases.{by-lt, by-eq}
 use Rattle.frames.specs.Refusals.{Row, ◌if◌, first_of}
-use Rattle.frames.specs.Frames.{head_rows, field_rows, report_rows, report_lines}
+use Rattle.frames.specs.Frames.{head_rows, field_rows, report_rows}
 use Rattle.frames.proofs.Refusals.{Numbered, numbered, first-empty, first_holds, first_passes, first-none}
 use Rattle.blocks.specs.Fields.{max_word, blocks_in}
 use Rattle.lookup.specs.Lookup.{slots_in}
 use Rattle.ingest.specs.declared.ReportAnswer.{ReportAnswer}
-use Rattle.ledger.specs.Ledger.{Report, prescribed_blocks, earlier_rows, ledger_rows, enter_report}
+use Rattle.ledger.specs.Ledger.{Report, lines_of, prescribed_blocks, earlier_rows, ledger_rows, enter_report}
 use Rattle.ledger.specs.Calls.{start, index_step, final, ledger_for}
 use Rattle.ledger.specs.Room.{NoRoom}
 use Rattle.ledger.proofs.Calls.{carried}
-use Rattle.ledger.proofs.Agree.{Carried, carries}
+use Rattle.ledger.proofs.Agree.{Carried, carries, steps_of}
 
 -- each has a number
 earlier-numbered : (entries : ℕ) (rs : List Report) (f : List ℕ) → Numbered (earlier_rows entries rs f)
@@ -28,7 +28,7 @@ earlier-numbered entries rs f = numbered _ refl
 
 module _ (bytes entries : ℕ) (rs : List Report) (f : List ℕ) where
   abbrev more : List Report
-  more = rs ++ (report_lines f ∷ [])
+  more = rs ++ (lines_of f ∷ [])
 
   row12 : Row
   row12 = 12 if ltb (blocks_in bytes) (prescribed_blocks more)
@@ -63,5 +63,5 @@ no_room m rs cs f framed bytes z =
     let b = length m.arena in
     let e = length m.table in
     let c : Carried b e (final index_step m (start ∷ cs)) held = carried Carried carries m rs cs framed in
-    let same = ap (λ (a : ReportAnswer). a.refusal) (carries.report_answer b e (final index_step m (start ∷ cs)) held f bytes c) in
+    let same = ap (λ (a : ReportAnswer). a.refusal) (steps_of f bytes c).answer in
     (λ r. full b e held f z (sym same ∙ r), λ h. same ∙ meets b e held f z h)

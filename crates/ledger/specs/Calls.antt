@@ -1,12 +1,12 @@
 -- Lists of calls, run by the index and by the plain ledger, and demand 3: both agree (document 01, "The plain ledger of demand 3").
-use Rattle.std.specs.Prelude.{ℕ, ◌<◌, ◌≡◌, List, [], ◌∷◌, cond, eqb, length, get_or, replicate}
-use Rattle.frames.specs.Frames.{query_refusal, query_start, query_terms}
+use Rattle.std.specs.Prelude.{ℕ, ◌<◌, ◌≡◌, List, [], ◌∷◌, false, cond, eqb, length, get_or, replicate}
+use Rattle.frames.specs.Frames.{query_refusal}
 use Rattle.counters.specs.declared.Counters.{Counters}
 use Rattle.counters.specs.Counters.{Memory, memory}
 use Rattle.ingest.specs.declared.ReportAnswer.{ReportAnswer}
 use Rattle.ingest.specs.Report.{report_call}
-use Rattle.query.specs.Listing.{ListedOne, ListedAll, refused, list_one, list_all, list_one_call, list_all_call}
-use Rattle.ledger.specs.Ledger.{Report, names, prescribed_blocks, enter_report, listed}
+use Rattle.query.specs.Listing.{ListedOne, ListedAll, list_one_call, list_all_call}
+use Rattle.ledger.specs.Ledger.{Report, start_of, named_by, names, prescribed_blocks, enter_report, listed, told, fill_two, fill_list}
 
 -- ---- calls and what they answer
 
@@ -48,12 +48,12 @@ index_step m (all-terms f numbers) = record { answer = of_all (list_all_call m f
 unfoldable pub ledger_one : List Report → List ℕ → List ℕ → List ℕ → ListedOne
 ledger_one rs f numbers counts =
     let r = query_refusal 2 1 f in
-    cond (eqb r 0) (list_one (listed rs (query_start f) (query_terms f)) numbers counts) (record { answer = refused r; numbers = numbers; counts = counts })
+    cond (eqb r 0) (fill_two (listed rs (start_of f) (named_by f)) numbers counts) (record { answer = told r false 0; numbers = numbers; counts = counts })
 
 unfoldable pub ledger_all : List Report → List ℕ → List ℕ → ListedAll
 ledger_all rs f numbers =
     let r = query_refusal 3 8 f in
-    cond (eqb r 0) (list_all (listed rs (query_start f) (query_terms f)) numbers) (record { answer = refused r; numbers = numbers })
+    cond (eqb r 0) (fill_list (listed rs (start_of f) (named_by f)) numbers) (record { answer = told r false 0; numbers = numbers })
 
 unfoldable pub ledger_step : ℕ → ℕ → List Report → Call → Step (List Report)
 ledger_step bytes entries rs start = record { answer = started; left = [] }
@@ -97,14 +97,32 @@ pub record Counted (k : Counters) (rs : List Report) : Type 0 where
   pub terms : k.terms ≡ length (names rs)
   pub reports : k.reports ≡ length rs
 
--- the ledger beside a memory
+-- an index of any make: what a call does in a state, the counters that the state shows, and how many bytes and entries it was lent
+pub record Make (S : Type 0) : Type 0 where
+  pub step : S → Call → Step S
+  pub counters : S → Counters
+  pub bytes : S → ℕ
+  pub entries : S → ℕ
+
+-- the ledger beside a state
+abbrev pub ledger_by : {S : Type 0} → Make S → S → List Report → Call → Step (List Report)
+ledger_by x s = ledger_step (x.bytes s) (x.entries s)
+
+-- a start and calls behind it, in any state and beside any ledger: every answer and every lent list is the same, and at the end the counters are right
+pub record Agree {S : Type 0} (x : Make S) (s : S) (rs : List Report) (cs : List Call) : Type 0 where
+  pub same_answers : answers x.step s (start ∷ cs) ≡ answers (ledger_by x s) rs (start ∷ cs)
+  pub right_counters : Counted (x.counters (final x.step s (start ∷ cs))) (final (ledger_by x s) rs (start ∷ cs))
+
+abbrev pub Agrees : {S : Type 0} → Make S → Type 0
+Agrees {S} x = (s : S) (rs : List Report) (cs : List Call) → Framed cs → Agree x s rs cs
+
+-- the index of this library, whose state is the memory that it is lent
+abbrev pub library : Make Memory
+library = record { step = index_step; counters = λ m. m.counters; bytes = λ m. length m.arena; entries = λ m. length m.table }
+
 abbrev pub ledger_for : Memory → List Report → Call → Step (List Report)
-ledger_for m = ledger_step (length m.arena) (length m.table)
+ledger_for m = ledger_by library m
 
--- a start and calls behind it, on any memory and any ledger: every answer and every lent list is the same, and at the end the counters are right
-pub record Agree (m : Memory) (rs : List Report) (cs : List Call) : Type 0 where
-  pub same_answers : answers index_step m (start ∷ cs) ≡ answers (ledger_for m) rs (start ∷ cs)
-  pub right_counters : Counted (final index_step m (start ∷ cs)).counters (final (ledger_for m) rs (start ∷ cs))
-
+-- DEMAND 3
 abbrev pub Claim : Type 0
-Claim = (m : Memory) (rs : List Report) (cs : List Call) → Framed cs → Agree m rs cs
+Claim = Agrees library

@@ -1,15 +1,44 @@
 -- The plain ledger (document 01, "The plain ledger of demand 3"): a list of reports, numbered from 1, each a list of folded terms with counts.
-use Rattle.std.specs.Prelude.{ℕ, suc, ◌+◌, ◌/◌, List, [], ◌∷◌, ◌++◌, map, Bool, cond, ◌&&◌, ltb, leb, eqb, length}
+use Rattle.std.specs.Prelude.{ℕ, zero, suc, ◌+◌, ◌/◌, List, [], ◌∷◌, ◌++◌, map, Bool, true, false, cond, ◌&&◌, ltb, leb, eqb, length, take, drop}
 use Rattle.basics.specs.Lists.{all, any, same}
+use Rattle.basics.specs.Words.{word_at}
+use Rattle.terms.specs.Terms.{folded}
 use Rattle.frames.specs.Refusals.{Row, ◌if◌, first_of}
-use Rattle.frames.specs.Frames.{Line, report_rows, report_lines}
+use Rattle.frames.specs.Frames.{Line, report_rows}
 use Rattle.blocks.specs.Fields.{max_word, blocks_in}
 use Rattle.blocks.specs.Prescribed.{Posting, prescribed}
 use Rattle.lookup.specs.Lookup.{slots_in}
 use Rattle.ingest.specs.declared.ReportAnswer.{ReportAnswer}
+use Rattle.query.specs.declared.ListAnswer.{ListAnswer}
+use Rattle.query.specs.Listing.{ListedOne, ListedAll}
 
 abbrev pub Report : Type 0
 Report = List Line
+
+-- ---- what a frame says, read from its front to its end. A frame has no more lines or terms than bytes
+
+-- the lines in these bytes: a length, so many bytes of a term, four of a count, and on behind them
+unfoldable pub lines_in : ℕ → List ℕ → List Line
+lines_in zero s = []
+lines_in (suc fuel) [] = []
+lines_in (suc fuel) (n ∷ s) = record { term = folded (take n s); count = word_at (drop n s) 0 } ∷ lines_in fuel (drop (n + 4) s)
+
+-- of a report, behind its kind
+unfoldable pub lines_of : List ℕ → Report
+lines_of f = lines_in (length f) (drop 4 f)
+
+-- the terms in these bytes: a length, so many bytes of a term, and on behind them
+unfoldable pub named_in : ℕ → List ℕ → List (List ℕ)
+named_in zero s = []
+named_in (suc fuel) [] = []
+named_in (suc fuel) (n ∷ s) = folded (take n s) ∷ named_in fuel (drop n s)
+
+-- of a query: behind its kind the start, and behind that the terms
+unfoldable pub start_of : List ℕ → ℕ
+start_of f = word_at (drop 4 f) 0
+
+unfoldable pub named_by : List ℕ → List (List ℕ)
+named_by f = named_in (length f) (drop 8 f)
 
 -- ---- what it holds of a term
 
@@ -57,12 +86,12 @@ prescribed_blocks rs = sum (map (λ w. prescribed (length w) (postings_of rs w))
 -- the rules that come before 12: 1 to 7, 9 and 11
 unfoldable pub earlier_rows : ℕ → List Report → List ℕ → List Row
 earlier_rows entries rs f =
-    let more = rs ++ (report_lines f ∷ []) in
+    let more = rs ++ (lines_of f ∷ []) in
     report_rows f ++ ((9 if eqb (length rs) max_word) ∷ (11 if ltb (slots_in entries / 2) (length (names more))) ∷ [])
 
 unfoldable pub ledger_rows : ℕ → ℕ → List Report → List ℕ → List Row
 ledger_rows bytes entries rs f =
-    let more = rs ++ (report_lines f ∷ []) in earlier_rows entries rs f ++ ((12 if ltb (blocks_in bytes) (prescribed_blocks more)) ∷ [])
+    let more = rs ++ (lines_of f ∷ []) in earlier_rows entries rs f ++ ((12 if ltb (blocks_in bytes) (prescribed_blocks more)) ∷ [])
 
 pub record Entered : Type 0 where
   pub answer : ReportAnswer
@@ -73,7 +102,7 @@ enter_report bytes entries rs f =
     let r = first_of (ledger_rows bytes entries rs f) in
     cond (eqb r 0) (record {
       answer = record { refusal = 0; number = length rs + 1 };
-      reports = rs ++ (report_lines f ∷ []);
+      reports = rs ++ (lines_of f ∷ []);
     }) (record { answer = record { refusal = r; number = 0 }; reports = rs })
 
 -- ---- listing: ascending, the reports at or past the start that hold all of the named terms; the count is that of the first named term
@@ -98,3 +127,24 @@ list_from n start ws (r ∷ rs) =
 
 unfoldable pub listed : List Report → ℕ → List (List ℕ) → List Posting
 listed rs start ws = list_from 1 start ws rs
+
+-- ---- filling the lent lists, place by place: each report in the next place, later places keep what they have; more remain exactly when one finds no place
+
+abbrev pub told : ℕ → Bool → ℕ → ListAnswer
+told refusal more filled = record { refusal = refusal; more = more; filled = filled }
+
+-- one place more is filled than the answer says
+abbrev pub onward : ListAnswer → ListAnswer
+onward a = told a.refusal a.more (suc a.filled)
+
+unfoldable pub fill_two : List Posting → List ℕ → List ℕ → ListedOne
+fill_two [] ns cs = record { answer = told 0 false 0; numbers = ns; counts = cs }
+fill_two (p ∷ ps) [] cs = record { answer = told 0 true 0; numbers = []; counts = cs }
+fill_two (p ∷ ps) (n ∷ ns) [] = record { answer = told 0 true 0; numbers = n ∷ ns; counts = [] }
+fill_two (p ∷ ps) (n ∷ ns) (c ∷ cs) =
+    let rest = fill_two ps ns cs in record { answer = onward rest.answer; numbers = p.number ∷ rest.numbers; counts = p.count ∷ rest.counts }
+
+unfoldable pub fill_list : List Posting → List ℕ → ListedAll
+fill_list [] ns = record { answer = told 0 false 0; numbers = ns }
+fill_list (p ∷ ps) [] = record { answer = told 0 true 0; numbers = [] }
+fill_list (p ∷ ps) (n ∷ ns) = let rest = fill_list ps ns in record { answer = onward rest.answer; numbers = p.number ∷ rest.numbers }
