@@ -14,3 +14,6 @@ pub mod ListingStep
 pub mod Calls
 pub mod Agree
 pub mod Room
+pub mod Example
+pub mod Strength
+pub mod Refusing
