@@ -1,4 +1,5 @@
--- What is claimed of the coding of postings. The records speak of any code and any decoder; they are pinned for ours.
+-- What is claimed of the coding of postings: `Shares` and `RoundTripsBy` of any code and decoder, which `codes_round_trip`
+-- states of ours.
 use Rattle.std.specs.Prelude.{ℕ, ◌+◌, ◌-◌, ◌*◌, ◌≤◌, ◌<◌, ◌≡◌, List, ◌++◌, length, take, Option}
 use Rattle.postings.specs.declared.Decoded.{Decoded}
 use Rattle.postings.specs.Coding.{max_gap, max_count, max_first, max_second, vbyte, code, posting, decoded}
