@@ -1,15 +1,17 @@
 -- An index that stands in an arena: each of its terms stands there, in blocks of its own.
 -- Assumes nothing.
-use mathlib.Core.Path.{◌≡◌, refl, sym, ap, ◌∙◌}
-use Prim.Native.Nat.{ℕ, ◌-◌, ◌<◌}
+use mathlib.Core.Path.{◌≡◌, refl, sym, ap, ap₂, ◌∙◌}
+use Prim.Native.Nat.{ℕ, zero, suc, ◌+◌, ◌-◌, ◌≤◌, ◌<◌}
 use mathlib.Core.Bool.{Bool, true, false}
-use mathlib.Core.List.{List}
+use mathlib.Core.List.{List, ◌++◌}
 use native.Mathlib.Omega.{arith}
 use lib.Dec.{eqb}
-use lib.ListN.{length}
+use lib.ListN.{length, take, drop}
+use lib.Seq.{take-add}
 use borrow.Author.Tests.{eqb-true, eqb-false, eq-eqb, ne_eqb}
+use Rattle.blocks.specs.Fields.{block_size, place}
 use Rattle.layout.specs.Held.{head_no}
-use Rattle.layout.specs.Index.{Index, Owner, term_at, owner_at, no_at, used_of, Linked, Image, empty}
+use Rattle.layout.specs.Index.{Index, Owner, term_at, owner_at, no_at, used_of, Linked, block_at, Image, empty}
 use Rattle.layout.proofs.Held.{nos-closed}
 use Rattle.layout.proofs.Standing.{Standing}
 
@@ -57,3 +59,14 @@ heads_apart {ix} l i m hi hm e =
 
 pub image-empty : (a : List ℕ) → Image a empty
 image-empty a = record { inside = omega arith; bytes = λ k h. absurd (omega arith) }
+
+-- ---- the bytes of the used blocks
+
+-- two arenas that hold one index are the same in its blocks, byte for byte: here in the first n of them
+pub image_same : {a b : List ℕ} (ix : Index) → Image a ix → Image b ix → (n : ℕ) → n ≤ used_of ix → take (place n) a ≡ take (place n) b
+unfolding block_at
+image_same ix i j zero h = refl
+image_same {a} {b} ix i j (suc n) h =
+    let e : place (suc n) ≡ place n + block_size = omega arith in
+    let one : take block_size (drop (place n) a) ≡ take block_size (drop (place n) b) = i.bytes n (omega arith) ∙ sym (j.bytes n (omega arith)) in
+    rw (e, take-add (place n) block_size a, take-add (place n) block_size b) (ap₂ ◌++◌ (image_same ix i j n (omega arith)) one)

@@ -15,10 +15,10 @@ use Rattle.blocks.specs.Fields.{max_word, capacity, place, head_of}
 use Rattle.blocks.specs.Prescribed.{Posting}
 use Rattle.blocks.specs.Writes.{fits, open_head, append}
 use Rattle.chains.specs.Chains.{last_from}
-use Rattle.lookup.specs.Lookup.{search, enter}
+use Rattle.lookup.specs.Lookup.{search, enter, Known}
 use Rattle.lookup.specs.declared.Found.TheVariants.{At, Unknown}
 use Rattle.lookup.proofs.Search.{Stands, length-enter}
-use Rattle.lookup.proofs.Table.{Known, Tab, tab_keep, tab_enter}
+use Rattle.lookup.proofs.Table.{Tab, tab_keep, tab_enter}
 use Rattle.counters.specs.Counters.{Memory, memory, max_terms}
 use Rattle.ingest.specs.declared.Place.TheVariants.{New, Stays, Spills}
 use Rattle.ingest.specs.Report.{place_of, is_damaged, terms_for, blocks_for, written}

@@ -18,10 +18,10 @@ use Rattle.blocks.specs.Prescribed.{Posting, Reach, opened, onward, reached}
 use Rattle.blocks.specs.Writes.{fits}
 use Rattle.chains.specs.Chains.{whole, last_from, chain_of}
 use Rattle.chains.proofs.Laws.{chain-whole}
-use Rattle.lookup.specs.Lookup.{slots, search}
+use Rattle.lookup.specs.Lookup.{slots, search, Known}
 use Rattle.lookup.specs.declared.Found.TheVariants.{At, Unknown}
 use Rattle.lookup.proofs.Search.{search-none}
-use Rattle.lookup.proofs.Table.{Known, nth, Tab, Lacks, Open, known, unknown, tab_start}
+use Rattle.lookup.proofs.Table.{nth, Tab, Lacks, Open, known, unknown, tab_start}
 use Rattle.counters.specs.Counters.{Memory, memory}
 use Rattle.ingest.specs.declared.Place.TheVariants.{New, Stays, Spills}
 use Rattle.ingest.specs.Report.{damaged_head, place_at, placed, place_of}

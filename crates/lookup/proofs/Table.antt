@@ -10,12 +10,13 @@ use native.Mathlib.Numerals.{add-one}
 use native.Mathlib.Omega.{arith}
 use lib.ListN.{length, get_or, set, replicate, length-append, length-replicate, get_or-replicate, get_or-append}
 use lib.Seq.{get_or-append_seam, get_or-set_same, get_or-set_other}
+use borrow.Author.Tests.{eq-eqb, ne_eqb}
 use Rattle.basics.proofs.Cases.{by-lt, by-eq}
 use Rattle.terms.specs.Terms.{fnv1a}
 use Rattle.blocks.specs.Fields.{name_of}
-use Rattle.lookup.specs.Lookup.{slots, next_slot, search as sought, enter}
+use Rattle.lookup.specs.Lookup.{slots, next_slot, search as sought, enter, Known, empty_from, slot_for, enter_all, table_of}
 use Rattle.lookup.specs.declared.Found.TheVariants.{At, Unknown}
-use Rattle.lookup.proofs.Search.{slots_le, slots-enter, next_plain, next_last, next_lt, Way, here, on, Vacant, Stands, from, Step, vacant, unused, found, passed, step, from_unknown, search-some}
+use Rattle.lookup.proofs.Search.{slots_le, length-enter, slots-enter, next_plain, next_last, next_lt, Way, here, on, Vacant, Stands, from, Step, vacant, unused, found, passed, step, from_unknown, search-some}
 
 -- ---- how many slots are filled
 
@@ -59,11 +60,6 @@ spare (suc n) (suc v ∷ vs) h = spare_next (suc v) (spare n vs (omega arith))
 
 -- ---- the terms that a table holds
 
--- a known term: its name, and its head's block
-pub record Known : Type 0 where
-  pub name : List ℕ
-  pub head : ℕ
-
 abbrev pub unnamed : Known
 unnamed = record { name = []; head = 0 }
 
@@ -83,7 +79,8 @@ pub record Reached (table : List ℕ) (k : Known) : Type 0 where
   pub way : Way (slots table) table (slots table) (fnv1a k.name % slots table) slot
 
 -- the invariant: a table holds these terms, in order of their entry. At most half of its slots are filled; each term's head is used
--- and holds its name; names are different; slots hold nothing else; each term is reached
+-- and holds its name; names are different; slots hold nothing else; each term is reached. The terms in their order prescribe the
+-- table, entry by entry
 pub record Tab (a : List ℕ) (used : ℕ) (table : List ℕ) (ks : List Known) : Type 0 where
   pub most : length ks ≤ slots table / 2
   pub stands : (i : ℕ) → i < length ks → Stands a used (nth ks i).name (nth ks i).head
@@ -91,6 +88,7 @@ pub record Tab (a : List ℕ) (used : ℕ) (table : List ℕ) (ks : List Known) 
   pub only : (s : ℕ) → s < slots table → Slot ks (get_or table s 0)
   pub reached : (i : ℕ) → i < length ks → Reached table (nth ks i)
   pub count : filled (slots table) table ≡ length ks
+  pub is : table ≡ table_of (length table) ks
 
 -- none of the terms has the name w
 abbrev pub Lacks : List Known → List ℕ → Type 0
@@ -215,10 +213,38 @@ module _ {a : List ℕ} {used : ℕ} {table : List ℕ} {ks : List Known} (tab :
       (ends w new free.slot free.inside free.empty (slots table) (first table w) low
       (ahead-all w new free.slot free.inside free.empty (first table w) low))
 
+-- ---- the table as a function of its terms
+
+-- the empty slot that a search meets is the first
+empty_met : {table : List ℕ} {left s k : ℕ} → Way (slots table) table left s k → get_or table k 0 ≡ 0 → empty_from left table s ≡ k
+unfolding empty_from
+empty_met {table} (here {k = k}) z = rw (eq-eqb (get_or table k 0) 0 z)
+empty_met {table} (on {s = s} n w) z = rw (ne_eqb (get_or table s 0) 0 n) (empty_met w z)
+
+-- a last term is entered into the table of those before it
+enter_last : (table : List ℕ) (ks : List Known) (k : Known)
+    → enter_all table (ks ++ (k ∷ [])) ≡ enter (enter_all table ks) (slot_for (enter_all table ks) k.name) k.head
+unfolding enter_all
+enter_last table [] k = refl
+enter_last table (j ∷ ks) k = enter_last (enter table (slot_for table j.name) j.head) ks k
+
+-- entering a term where its search ends gives the table of one term more
+table_enter : {table : List ℕ} (ks : List Known) (k : Known) (s : ℕ) → table ≡ table_of (length table) ks
+    → Vacant (slots table) table (slots table) (fnv1a k.name % slots table) s
+    → enter table s k.head ≡ table_of (length (enter table s k.head)) (ks ++ (k ∷ []))
+unfolding table_of slot_for
+table_enter {table} ks k s is v =
+    let e : slot_for table k.name ≡ s = empty_met v.way v.empty in
+    ap (λ (x : ℕ). enter table x k.head) (sym e)
+    ∙ ap (λ (x : List ℕ). enter x (slot_for x k.name) k.head) is
+    ∙ sym (enter_last (replicate (length table) 0) ks k)
+    ∙ ap (λ (n : ℕ). table_of n (ks ++ (k ∷ []))) (sym (length-enter table s k.head))
+
 -- ---- what keeps the invariant
 
 -- a cleared table holds no term
 pub tab_start : (a : List ℕ) (used n : ℕ) → Tab a used (replicate n 0) []
+unfolding table_of enter_all
 tab_start a used n =
     record {
       most = omega arith;
@@ -227,6 +253,7 @@ tab_start a used n =
       only = λ s h. empty (get_or-replicate n s 0 0 (omega (arith, slots_le (replicate n 0), length-replicate {A = ℕ} n 0)));
       reached = λ i h. absurd (omega arith);
       count = filled_none (slots (replicate n 0)) n;
+      is = rw (length-replicate {A = ℕ} n 0);
     }
 
 -- the arena may change where the names of the heads stay, and blocks may be taken
@@ -240,6 +267,7 @@ tab_keep tab a' used' more kept =
       only = tab.only;
       reached = tab.reached;
       count = tab.count;
+      is = tab.is;
     }
 
 -- filling an empty slot leaves each way
@@ -309,6 +337,7 @@ module _ {a : List ℕ} {used : ℕ} {table : List ℕ} {ks : List Known} (tab :
         reached = each (λ i j. Reached (enter table s k.head) j) ks k (λ i h. reach_old (nth ks i) (tab.reached i h)) reach_new;
         count = rw (slots-enter table s k.head, length-append, add-one k.head)
             (filled_set (slots table) table s k.head v.inside in_table v.empty ∙ omega (arith, tab.count));
+        is = table_enter ks k s tab.is v;
       }
 
 -- a new name is entered, its head in the slot that its search gave, be it in this arena or in one before

@@ -1,5 +1,5 @@
 -- Finding a term in the table (document 01, "Memory lent to the index", "Finding a term"; damage at look-up).
-use Rattle.std.specs.Prelude.{ℕ, zero, suc, ◌+◌, ◌-◌, ◌%◌, ◌<◌, min, ◌≡◌, List, Result, Ok, Err, cond, ◌&&◌, ltb, leb, eqb, length, get_or, set}
+use Rattle.std.specs.Prelude.{ℕ, zero, suc, ◌+◌, ◌-◌, ◌%◌, ◌<◌, min, ◌≡◌, List, [], ◌∷◌, Result, Ok, Err, cond, ◌&&◌, ltb, leb, eqb, length, get_or, set, replicate}
 use Rattle.basics.specs.Lists.{same}
 use Rattle.terms.specs.Terms.{fnv1a}
 use Rattle.blocks.specs.Fields.{max_word, place, name_of}
@@ -36,6 +36,31 @@ search a used table name =
 -- a new term's head in the empty slot met: block number + 1
 unfoldable pub enter : List ℕ → ℕ → ℕ → List ℕ
 enter table s b = set table s (b + 1)
+
+-- ---- the table that terms prescribe
+
+-- a known term: its name, and its head's block
+pub record Known : Type 0 where
+  pub name : List ℕ
+  pub head : ℕ
+
+-- the first empty slot from slot s on, wrapping; `left` slots are still to be met. 0 where all of them are filled
+unfoldable pub empty_from : ℕ → List ℕ → ℕ → ℕ
+empty_from zero table s = 0
+empty_from (suc left) table s = cond (eqb (get_or table s 0) 0) s (empty_from left table (next_slot (slots table) s))
+
+-- the slot that a new term takes: the first empty one from the slot of its hash on
+unfoldable pub slot_for : List ℕ → List ℕ → ℕ
+slot_for table name = empty_from (slots table) table (fnv1a name % slots table)
+
+-- each term's head entered, in the order in which the terms came
+unfoldable pub enter_all : List ℕ → List Known → List ℕ
+enter_all table [] = table
+enter_all table (k ∷ ks) = enter_all (enter table (slot_for table k.name) k.head) ks
+
+-- a table of n entries that holds these terms: nulls, and each term entered
+unfoldable pub table_of : ℕ → List Known → List ℕ
+table_of n ks = enter_all (replicate n 0) ks
 
 -- ---- what several searches ask for before any of them compares
 

@@ -5,7 +5,7 @@
 ghost use Rattle.std.specs.Prelude.{◌≡◌, ℕ, IfSome, ◌+◌, ◌-◌, ◌≤◌, ◌<◌, ◌^◌, length, drop};
 ghost use Rattle.std.proofs.lemmas.List.Edits.{sets};
 ghost use Rattle.postings.specs.Coding.{vbyte, code, code_length, value, at_most, decoded};
-ghost use Rattle.postings.specs.Claims.{RoundTrips};
+ghost use Rattle.postings.specs.Claims.{RoundTrips, Shares, NotConstant};
 
 // The distance of a report from an earlier one, which is what a posting stores. The type says which the earlier one
 // is, so that a gap that counts from one report is not stored where another is meant.
@@ -228,7 +228,11 @@ pub fn decode(s: &[u8]) -> Option<Decoded>
     decode_long(s)
 }
 
-// Decoding undoes coding and coding undoes decoding: a contract, so that the gate fails without it.
+// Decoding undoes coding and coding undoes decoding; counts below 4 share a value; no constant code has a decoder. A
+// contract, so that the gate fails without it.
+#[tactic(auto, using(crate::proofs::Codes::code_low, crate::proofs::Codes::code_high))]
 pub fn codes_round_trip()
-    ensures { RoundTrips }
+    ensures round_trips { RoundTrips }
+    ensures shares { Shares code }
+    ensures not_constant { NotConstant }
 {}
