@@ -17,3 +17,4 @@ pub mod Room
 pub mod Example
 pub mod Strength
 pub mod Refusing
+pub mod State

@@ -16,7 +16,7 @@ use Rattle.blocks.specs.Prescribed.{Posting}
 use Rattle.blocks.specs.Writes.{fits, open_head, append}
 use Rattle.chains.specs.Chains.{last_from}
 use Rattle.lookup.specs.Lookup.{search, enter, Known}
-use Rattle.lookup.specs.declared.Found.TheVariants.{At, Unknown}
+use Rattle.lookup.specs.declared.Found.TheVariants.{Unknown}
 use Rattle.lookup.proofs.Search.{Stands, length-enter}
 use Rattle.lookup.proofs.Table.{Tab, tab_keep, tab_enter}
 use Rattle.counters.specs.Counters.{Memory, memory, max_terms}

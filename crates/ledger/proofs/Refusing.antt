@@ -1,7 +1,7 @@
 -- DEMAND 1: how every call ends.
 -- Assumes nothing.
-use Prim.Native.Nat.{ℕ, ◌<◌}
-use mathlib.Core.Path.{◌≡◌, refl, sym, ap, ◌∙◌}
+use Prim.Native.Nat.{ℕ}
+use mathlib.Core.Path.{◌≡◌, refl, ap, ◌∙◌}
 use mathlib.Core.Bool.{Bool, true, false, cond}
 use mathlib.Core.List.{List, [], ◌∷◌}
 use mathlib.Core.Logic.{◌⊎◌, inl, inr}
@@ -16,14 +16,12 @@ use Rattle.frames.specs.Frames.{Line, report_lines, head_rows, field_rows, repor
 use Rattle.frames.proofs.Refusals.{Numbered, numbered, first-zero}
 use Rattle.frames.proofs.Refusals as rows
 use Rattle.counters.specs.Counters.{Memory}
-use Rattle.ingest.specs.declared.ReportAnswer.{ReportAnswer}
 use Rattle.ingest.specs.declared.Place.TheVariants.{New, Stays, Spills}
-use Rattle.ingest.specs.Report.{Placed, plan_rows, lines_plan, place_of, written, Writing, write_lines, next_number, call_rows, call_refusal, Called, report_call}
+use Rattle.ingest.specs.Report.{Placed, plan_rows, lines_plan, place_of, written, Writing, write_lines, next_number, call_rows, call_refusal, Called}
 use Rattle.ingest.proofs.Calls.{call-refused, call-stopped, call-taken}
-use Rattle.query.specs.declared.ListAnswer.{ListAnswer}
-use Rattle.query.specs.Listing.{ListedOne, ListedAll, list_rows, list_refusal, list_one, list_all, list_one_call, list_all_call}
+use Rattle.query.specs.Listing.{list_rows, list_refusal, list_one, list_all, list_one_call, list_all_call}
 use Rattle.ledger.specs.Calls.{index_step}
-use Rattle.ledger.specs.Refusing.{Clear, none, and, First, here, later, Ends, accepted, refused, Judged, writing, Stops, OneEnds, AllEnds, Refuses}
+use Rattle.ledger.specs.Refusing.{Clear, none, and, First, here, later, accepted, refused, Judged, writing, Stops, OneEnds, AllEnds, Refuses}
 
 -- ---- the first row that holds
 

@@ -2,9 +2,9 @@
 -- Assumes nothing.
 use mathlib.Core.Path.{◌≡◌, refl, sym, ap, ◌∙◌}
 use mathlib.Core.List.{List, [], ◌∷◌, ◌++◌}
-use Prim.Native.Nat.{ℕ, ◌<◌, ◌/◌}
+use Prim.Native.Nat.{ℕ, ◌<◌}
 use native.Mathlib.Omega.{arith}
-use lib.Dec.{ltb, eqb}
+use lib.Dec.{ltb}
 use lib.ListN.{length}
 use borrow.Author.Tests.{lt-ltb, le-ltb, eq-eqb, ne_eqb}
 use Rattle.basics.specs.Lists.{all}
@@ -12,8 +12,7 @@ use Rattle.basics.proofs.Cases.{by-lt, by-eq}
 use Rattle.frames.specs.Refusals.{Row, ◌if◌, first_of}
 use Rattle.frames.specs.Frames.{head_rows, field_rows, report_rows}
 use Rattle.frames.proofs.Refusals.{Numbered, numbered, first-empty, first_holds, first_passes, first-none}
-use Rattle.blocks.specs.Fields.{max_word, blocks_in}
-use Rattle.lookup.specs.Lookup.{slots_in}
+use Rattle.blocks.specs.Fields.{blocks_in}
 use Rattle.ingest.specs.declared.ReportAnswer.{ReportAnswer}
 use Rattle.ledger.specs.Ledger.{Report, lines_of, prescribed_blocks, earlier_rows, ledger_rows, enter_report}
 use Rattle.ledger.specs.Calls.{start, index_step, final, ledger_for}

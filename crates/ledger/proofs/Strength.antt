@@ -1,13 +1,12 @@
 -- Demand 3 shuts out six wrong indexes: on one list of calls each answers something else than the ledger, by one computed test.
 -- Assumes nothing.
-use Prim.Native.Nat.{ℕ, zero, suc, ◌<◌}
-use mathlib.Core.Path.{◌≡◌, refl, sym, ap, ◌∙◌}
+use Prim.Native.Nat.{ℕ, zero, suc}
+use mathlib.Core.Path.{◌≡◌, refl, ap}
 use mathlib.Core.List.{List, [], ◌∷◌, ◌++◌}
-use mathlib.Core.Bool.{Bool, true, false, cond, not}
+use mathlib.Core.Bool.{Bool, true, false, not}
 use native.Mathlib.Omega.{arith}
 use borrow.Author.Tests.{ltb-true}
 use lib.Dec.{ltb}
-use lib.ListN.{get_or}
 use Rattle.basics.proofs.Lists.{and_left, and_right, eq_same}
 use Rattle.query.specs.declared.ListAnswer.{ListAnswer}
 use Rattle.basics.specs.Lists.{all, any, keep, same}
@@ -18,7 +17,7 @@ use Rattle.frames.specs.Frames.{version, body_length, kind, term_at, count_at, p
 use Rattle.postings.specs.Coding.{groups, vbyte, code}
 use Rattle.blocks.specs.Prescribed.{opened, onward, reached, prescribed}
 use Rattle.ledger.specs.Ledger.{lines_in, lines_of, named_in, named_by, start_of, in_report, in_reports, postings_of, with_name, names_after, names_from, names, sum, prescribed_blocks, earlier_rows, ledger_rows, enter_report, holds_term, count_in, first_count, list_from, listed, fill_two, fill_list}
-use Rattle.ledger.specs.Calls.{Call, start, Answer, started, taken, of_one, of_all, frame_of, Bytes, Framed, none, one, ledger_one, ledger_all, ledger_step, answers, Make, Agrees}
+use Rattle.ledger.specs.Calls.{Call, start, Answer, started, taken, of_one, of_all, frame_of, Bytes, Framed, none, one, ledger_one, ledger_all, ledger_step, answers, Agrees}
 use Rattle.ledger.specs.Strength.{Fault, wrong_step, wrong_index, always_full, first_blocks, made_up, no_more, faults, Each, Strength, trial}
 use Rattle.ledger.specs.Strength as strength
 

@@ -1,19 +1,18 @@
 -- The ledger's own words for what a frame says and for filling lists say what the index's do. Nothing else that they differ in is compared elsewhere.
 -- Assumes nothing.
 use mathlib.Core.Path.{◌≡◌, refl, sym, ap, ◌∙◌}
-use Prim.Native.Nat.{ℕ, zero, suc, ◌+◌, ◌≤◌, ◌<◌, min}
-use mathlib.Core.Bool.{false}
+use Prim.Native.Nat.{ℕ, zero, suc, ◌+◌, ◌<◌, min}
 use mathlib.Core.List.{List, [], ◌∷◌, map}
 use native.Mathlib.Nat.{zero-min, min-zero, suc-min-suc}
 use native.Mathlib.Omega.{arith}
 use borrow.Author.Tests.{lt-ltb, le-ltb}
 use lib.Dec.{ltb}
-use lib.ListN.{length, get_or, take, drop, set, drop_of_length-le}
+use lib.ListN.{length, get_or, drop, set, drop_of_length-le}
 use lib.Seq.{sets, drop-cons, drop-drop, get_or-drop}
 use Rattle.basics.specs.Words.{word_at}
 use Rattle.basics.proofs.Cases.{by-lt}
 use Rattle.basics.proofs.Lists.{take-nil}
-use Rattle.frames.specs.Frames.{Line, term_at, count_at, past_field, fields_up_to, fields, first_line, first_term, line_at, folded_at, report_lines, query_start, query_terms}
+use Rattle.frames.specs.Frames.{term_at, count_at, past_field, fields_up_to, fields, first_line, first_term, line_at, folded_at, report_lines, query_start, query_terms}
 use Rattle.blocks.specs.Prescribed.{Posting}
 use Rattle.query.specs.Listing.{numbers_of, counts_of, list_one, list_all}
 use Rattle.query.specs.Listing.{listed as given}

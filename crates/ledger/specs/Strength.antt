@@ -2,7 +2,6 @@
 use Rattle.std.specs.Prelude.{ℕ, List, [], ◌∷◌, ◌++◌, map, false, eqb, length, replicate}
 use Rattle.basics.specs.Lists.{keep}
 use Rattle.blocks.specs.Prescribed.{prescribed}
-use Rattle.query.specs.declared.ListAnswer.{ListAnswer}
 use Rattle.ledger.specs.Ledger.{Report, names, postings_of, prescribed_blocks, told}
 use Rattle.ledger.specs.Calls.{Call, start, report, one-term, all-terms, Answer, started, taken, of_one, of_all, Step, ledger_step, Make, Agrees}
 

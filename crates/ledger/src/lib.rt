@@ -5,6 +5,7 @@ ghost use Rattle.ledger.specs.Calls.{Claim};
 ghost use Rattle.ledger.specs.Example.{Example};
 ghost use Rattle.ledger.specs.Refusing.{Refuses};
 ghost use Rattle.ledger.specs.Room.{NoRoom};
+ghost use Rattle.ledger.specs.State.{SameState};
 ghost use Rattle.ledger.specs.Strength.{Strength};
 
 // The claims, each as a contract, so that the gate fails without it.
@@ -36,4 +37,9 @@ pub fn example_holds()
 #[tactic(auto, using(crate::proofs::Room::no_room))]
 pub fn no_room()
     ensures { NoRoom }
+{}
+
+// Equal ledgers have equal memories: counters, table and used blocks, byte for byte.
+pub fn same_state()
+    ensures { SameState }
 {}
