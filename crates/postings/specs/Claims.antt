@@ -1,5 +1,5 @@
--- What is claimed of the coding of postings: `Shares` and `RoundTripsBy` of any code and decoder, which `codes_round_trip`
--- states of ours.
+-- What is claimed of the coding of postings: `Shares` and `RoundTripsBy` of any code and decoder, and
+-- `codes_round_trip` states them of ours.
 use Rattle.std.specs.Prelude.{ℕ, ◌+◌, ◌-◌, ◌*◌, ◌≤◌, ◌<◌, ◌≡◌, List, ◌++◌, length, take, Option}
 use Rattle.postings.specs.declared.Decoded.{Decoded}
 use Rattle.postings.specs.Coding.{max_gap, max_count, max_first, max_second, vbyte, code, posting, decoded}
