@@ -49,15 +49,14 @@ pub fn find(used: Used, table: &[u32], name: Name) -> Result<Found, Refusal>
     }
     let start = name.hash % t;
     for slot in (start..t).chain(0..start) {
-        let e = table[slot as usize];
-        if e == 0 {
+        let Some(b) = table[slot as usize].checked_sub(1) else {
             return Ok(Found::Unknown(slot));
-        }
-        if used.blocks <= e - 1 {
+        };
+        if used.blocks <= b {
             return Err(Refusal::Damaged);
         }
-        if holds_name(used.arena, e - 1, name) {
-            return Ok(Found::At(e - 1));
+        if holds_name(used.arena, b, name) {
+            return Ok(Found::At(b));
         }
     }
     Err(Refusal::Damaged)
