@@ -90,9 +90,7 @@ pub fn first_entries(table: &[u32], hashes: &[u32], entries: &mut [u32])
     ensures { Entries table.now hashes.now entries.new }
 {
     let t = slots_of(table);
-    for (i, hash) in hashes.iter().enumerate() {
-        entries[i] = first_entry(table, t, *hash);
-    }
+    basics::map_into(hashes, entries, |hash| first_entry(table, t, hash));
 }
 
 // The length of the term in the head that an entry leads to.
@@ -111,9 +109,7 @@ pub fn first_lengths(used: Used, entries: &[u32], lengths: &mut [u8])
     requires { length entries.now ≤ length lengths.old }
     ensures { Lengths used.entry.arena.now used.entry.blocks entries.now lengths.new }
 {
-    for (i, entry) in entries.iter().enumerate() {
-        lengths[i] = length_behind(used, *entry);
-    }
+    basics::map_into(entries, lengths, |entry| length_behind(used, entry));
 }
 
 // The search for a folded term whose first entry, and the length behind it, are known.
