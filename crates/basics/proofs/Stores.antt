@@ -3,11 +3,11 @@
 use mathlib.Core.Path.{◌≡◌, refl, ◌∙◌}
 use mathlib.Core.List.{List, [], ◌∷◌, ◌++◌, append_assoc}
 use Prim.Native.Nat.{ℕ, zero, suc, ◌+◌, ◌-◌, ◌≤◌, ◌<◌}
-use native.Mathlib.Nat.{add-zero, zero-add, add-suc}
+use native.Mathlib.Nat.{add-zero, zero-add}
 use native.Mathlib.Numerals.{add-one}
 use native.Mathlib.Omega.{arith}
-use lib.ListN.{length, get_or, set, drop, replicate, length-set, length-replicate, drop_of_length-le}
-use lib.Seq.{sets, sets-eq, drop-cons, drop-drop, set-set, set_comm, get_or-set_same, get_or-set_other}
+use lib.ListN.{length, get_or, set, drop, replicate, length-set, length-replicate}
+use lib.Seq.{sets, sets-eq, drop-drop, set-set, set_comm, get_or-set_same, get_or-set_other}
 use borrow.Rule.Slice.PartMut.{put_mid}
 use Rattle.basics.proofs.Lists.{drop-replicate}
 
@@ -29,17 +29,6 @@ sets_behind s i a j b e = rw e (sets-append s i a b)
 -- the same for what two calls left
 pub sets_two : (s : List ℕ) (i : ℕ) (a b : List ℕ) {t u : List ℕ} {j : ℕ} → t ≡ sets s i a → j ≡ i + length a → u ≡ sets t j b → u ≡ sets s i (a ++ b)
 sets_two s i a b p q r = r ∙ rw (p, q) (sets-append s i a b)
-
--- a list z stored one element after the other: before the turn for the i-th, from it on; at the end, nothing is left
-pub sets_turn : {A : Type 0} (s : List A) (at : ℕ) (z : List A) (i : ℕ) (x d : A) → i < length z → x ≡ get_or z i d → sets (set s (at + i) x) (at + (i + 1)) (drop (i + 1) z) ≡ sets s (at + i) (drop i z)
-sets_turn s at z i x d h e = rw (e, add-one, drop-cons z i d h, add-suc)
-
--- the same from the front on
-pub sets_front_turn : {A : Type 0} (s z : List A) (i : ℕ) (x d : A) → i < length z → x ≡ get_or z i d → sets (set s i x) (i + 1) (drop (i + 1) z) ≡ sets s i (drop i z)
-sets_front_turn s z i x d h e = simp zero-add at (sets_turn s 0 z i x d h e)
-
-pub sets_end : {A : Type 0} (s : List A) (at : ℕ) (z : List A) (i : ℕ) → length z ≤ i → sets s at (drop i z) ≡ s
-sets_end s at z i h = rw (drop_of_length-le z h)
 
 -- a list stored at the front of n times a
 pub sets_front : {A : Type 0} (s : List A) (n : ℕ) (a : A) → length s ≤ n → sets (replicate n a) 0 s ≡ s ++ replicate (n - length s) a

@@ -1,8 +1,9 @@
-// What every crate above shares: 16-bit and 32-bit numbers in bytes, highest byte first, and whether two slices are the
-// same. The laws on numbers, lists and tables stand in proofs/.
+// What every crate above shares: 16-bit and 32-bit numbers in bytes, highest byte first, whether two slices are the same,
+// and what a function gives at each element of a slice. The laws on numbers, lists and tables stand in proofs/.
 #![tactic(auto)]
 
-ghost use Rattle.std.specs.Prelude.{◌≡◌, ◌+◌, ◌*◌, ◌≤◌, ◌<◌, min, length};
+ghost use Rattle.std.specs.Prelude.{◌≡◌, ◌+◌, ◌*◌, ◌≤◌, ◌<◌, min, length, take, drop};
+ghost use Rattle.std.specs.List.{AllZip};
 ghost use Rattle.std.proofs.lemmas.List.Edits.{sets};
 ghost use Rattle.basics.specs.Words.{word, word_at};
 ghost use Rattle.basics.specs.Lists.{same};
@@ -54,4 +55,16 @@ pub fn same_bytes(a: &[u8], b: &[u8]) -> bool
     ensures { result ≡ same a.now b.now }
 {
     a == b
+}
+
+// Writes what `f` gives at each element of `from` into the first places of `into`, in the same order. The other places stay.
+pub fn map_into<T: Copy, U: Copy, F: Fn(T) -> U>(from: &[T], into: &mut [U], f: F)
+    requires fits { length from.now ≤ length into.old }
+    requires callable { F.IsAlwaysCallable f }
+    ensures made { AllZip (F.post f) from.now (take (length from.now) into.new) }
+    ensures kept { drop (length from.now) into.new ≡ drop (length from.now) into.old }
+{
+    for (i, x) in from.iter().enumerate() {
+        into[i] = f(*x);
+    }
 }

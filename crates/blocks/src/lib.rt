@@ -119,7 +119,7 @@ fn put_gap<const BLOCK: bool>(
     postings::put_posting(arena, at + offset, gap.steps(), count) - at
 }
 
-// Writes the first posting of a block, whose postings begin at `start`. The only place that takes a b-gap.
+// Writes the first posting of a block, whose postings begin at `start`: it takes a b-gap.
 fn put_first(arena: &mut [u8], b: u32, start: usize, gap: BGap, count: u32) -> usize
     requires { (0 < gap.0) × (start + length (code gap.0 count) ≤ block_size) × (place b + block_size ≤ length arena.old) }
     ensures { (result ≡ start + length (code gap.0 count)) × (arena.new ≡ sets arena.old (place b + start) (code gap.0 count)) }
@@ -127,7 +127,7 @@ fn put_first(arena: &mut [u8], b: u32, start: usize, gap: BGap, count: u32) -> u
     put_gap(arena, b, start, gap, count)
 }
 
-// Writes a posting behind others, at the write offset.
+// Writes a posting behind others, at the write offset: it takes a d-gap.
 fn put_next(arena: &mut [u8], b: u32, end: usize, gap: DGap, count: u32) -> usize
     requires { (0 < gap.0) × (end + length (code gap.0 count) ≤ block_size) × (place b + block_size ≤ length arena.old) }
     ensures { (result ≡ end + length (code gap.0 count)) × (arena.new ≡ sets arena.old (place b + end) (code gap.0 count)) }

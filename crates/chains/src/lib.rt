@@ -262,29 +262,13 @@ pub fn step_from(
     advance(used, reports, place)
 }
 
-// The posting at the reader's place, with the place behind it.
-pub fn next<'a>(r: ChainReader<'a>) -> Result<Option<Step>, Refusal>
-    ensures { result ≡ step_from r.entry.arena.now r.entry.used r.entry.reports r.entry.place }
-{
-    step_from(r.arena, r.used, r.reports, r.place)
-}
-
-// The same for a caller that has no reader.
-pub fn read_next(
-    arena: &[u8],
-    used: u32,
-    reports: u32,
-    place: Cursor,
-) -> Result<Option<Step>, Refusal>
-    ensures { result ≡ step_from arena.now used reports place }
-{
-    let r = ChainReader {
-        arena,
-        used,
-        reports,
-        place,
-    };
-    next(r)
+impl<'a> ChainReader<'a> {
+    // The posting at the reader's place, with the place behind it.
+    pub fn next(self) -> Result<Option<Step>, Refusal>
+        ensures { result ≡ step_from self.entry.arena.now self.entry.used self.entry.reports self.entry.place }
+    {
+        step_from(self.arena, self.used, self.reports, self.place)
+    }
 }
 
 // ---- a whole chain

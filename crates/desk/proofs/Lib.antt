@@ -1,6 +1,5 @@
 pub mod Texts
 pub mod OtherKinds
-pub mod Listings
 pub mod Cutting
 pub mod Serving
 pub mod Turns

@@ -6,6 +6,7 @@ use Rattle.desk.specs.declared.Answer.{Answer}
 use Rattle.desk.specs.declared.Next.{Next}
 use Rattle.desk.specs.declared.Next.TheVariants.{Settle, Read, Stop}
 use Rattle.desk.specs.declared.Settled.{Settled}
+use Rattle.desk.specs.Text.{pairs_text, places_text}
 use Rattle.desk.specs.Desk.{started, Answered, frame_length, frames, lines_of, memory_after}
 
 -- a text stands in the buffer from `at` on, all other bytes are as they were, and `end` is the place behind it, at most `most` bytes on
@@ -17,6 +18,11 @@ pub record Puts (most : ℕ) (out : List ℕ) (at : ℕ) (text : List ℕ) (end 
 -- the longest line: `Q`, sixteen times ` 4294967295:4294967295`, ` +`, the line's end
 abbrev pub longest_line : ℕ
 longest_line = 356
+
+-- the text of the places of a listing that were filled, with their counts where there are any
+abbrev pub filled_text : ℕ → List ℕ → Option (List ℕ) → List ℕ
+filled_text n numbers (Some counts) = pairs_text (take n numbers) (take n counts)
+filled_text n numbers None = places_text (take n numbers)
 
 -- a frame has been answered: its line stands in the output, and the memory is as its call leaves it
 pub record Answers (a : Answered) (out : List ℕ) (at : ℕ) (r : Answer) (left : Memory) (after : List ℕ) : Type 0 where

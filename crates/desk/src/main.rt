@@ -2,7 +2,8 @@
 // `desk_output` of specs/Desk.antt; the functions here are proved against it up to the calls that read and write.
 #![tactic(auto)]
 
-ghost use Rattle.std.specs.Prelude.{◌≡◌, ◌+◌, ◌-◌, ◌*◌, ◌≤◌, ◌<◌, [], ◌∷◌, Some, None, length, get_or, take, drop};
+ghost use Rattle.std.specs.Prelude.{◌≡◌, ◌+◌, ◌-◌, ◌*◌, ◌≤◌, ◌<◌, [], ◌∷◌, length, get_or, take, drop};
+ghost use Rattle.std.specs.Prelude.{Some, None, IfSome, option_map};
 ghost use Rattle.frames.specs.Frames.{body_length};
 ghost use Rattle.counters.specs.Counters.{memory};
 ghost use Rattle.refusals.specs.Numbers.{number_of};
@@ -15,14 +16,26 @@ ghost use Rattle.desk.specs.Text.{
   place_text,
   places_text,
   end_text,
+  list_line,
 };
 ghost use Rattle.desk.specs.Desk.{kind_of, other_refusal, answered, answered_as, frame_length, overlong};
-ghost use Rattle.desk.specs.Needs.{Puts, Answers, Settles, Turns, Reads, longest_line, ready_length, waiting_for};
+ghost use Rattle.desk.specs.Needs.{
+  Puts,
+  Answers,
+  Settles,
+  Turns,
+  Reads,
+  longest_line,
+  filled_text,
+  ready_length,
+  waiting_for,
+};
 ghost use Rattle.desk.specs.Claims.{LastRefused, TellsLedger};
 
 use counters::Counters;
 use frames::{Kind, MAX_BODY};
 use ingest::ReportAnswer;
+use query::ListAnswer;
 use refusals::Refusal;
 use std::io::{self, Read};
 
@@ -150,6 +163,35 @@ fn put_end(out: &mut [u8], at: usize, more: bool) -> usize
     put_byte(out, at, b'\n')
 }
 
+// The line of a listing: its refusal, or `Q`, the places that were filled, with their counts where there are any, and
+// the end.
+#[tactic(auto, unfolding(crate::specs::Text::list_line))]
+fn put_listing(
+    out: &mut [u8],
+    at: usize,
+    a: ListAnswer,
+    numbers: &[u32],
+    counts: Option<&[u32]>,
+) -> usize
+    requires room { at + longest_line ≤ length out.old }
+    requires few { a.filled ≤ 16 }
+    requires listed { a.filled ≤ length numbers.now }
+    requires counted { IfSome counts (λ c. a.filled ≤ length c.now) }
+    ensures { let places = filled_text a.filled numbers.now (option_map (λ c. c.now) counts.entry) in
+        Puts longest_line out.old at (list_line a places) result out.new }
+{
+    if a.refusal != 0 {
+        return put_numbered(out, at, b'E', u32::from(a.refusal));
+    }
+    let n = a.filled as usize;
+    let b = put_byte(out, at, b'Q');
+    let c = match counts {
+        Some(counts) => put_pairs(out, b, &numbers[..n], &counts[..n]),
+        None => put_places(out, b, &numbers[..n]),
+    };
+    put_end(out, c, a.more)
+}
+
 // ---- one frame
 
 // The byte at an offset, 0 behind the end.
@@ -168,6 +210,7 @@ fn kind_of(frame: &[u8]) -> Option<Kind>
 }
 
 // A report.
+#[tactic(auto, unfolding(crate::specs::Desk::answered_as, ingest::specs::Report::taken_of))]
 fn answer_report(
     arena: &mut [u8],
     table: &mut [u32],
@@ -188,6 +231,7 @@ fn answer_report(
 }
 
 // A listing of one term.
+#[tactic(auto, using(query::proofs::Bounds::one_bound), unfolding(crate::specs::Desk::answered_as, crate::specs::Text::one_line))]
 fn answer_one(
     arena: &[u8],
     table: &[u32],
@@ -203,16 +247,11 @@ fn answer_one(
     let mut numbers = [0u32; 16];
     let mut counts = [0u32; 16];
     let a = query::list_one(arena, table, k, frame, &mut numbers, &mut counts);
-    if a.refusal != 0 {
-        return put_numbered(out, at, b'E', u32::from(a.refusal));
-    }
-    let n = a.filled as usize;
-    let b = put_byte(out, at, b'Q');
-    let c = put_pairs(out, b, &numbers[..n], &counts[..n]);
-    put_end(out, c, a.more)
+    put_listing(out, at, a, &numbers, Some(&counts))
 }
 
 // A listing of all of 1 to 8 terms.
+#[tactic(auto, using(query::proofs::Bounds::all_bound), unfolding(crate::specs::Desk::answered_as, crate::specs::Text::all_line))]
 fn answer_all(
     arena: &[u8],
     table: &[u32],
@@ -227,13 +266,7 @@ fn answer_all(
 {
     let mut numbers = [0u32; 16];
     let a = query::list_all(arena, table, k, frame, &mut numbers);
-    if a.refusal != 0 {
-        return put_numbered(out, at, b'E', u32::from(a.refusal));
-    }
-    let n = a.filled as usize;
-    let b = put_byte(out, at, b'Q');
-    let c = put_places(out, b, &numbers[..n]);
-    put_end(out, c, a.more)
+    put_listing(out, at, a, &numbers, None)
 }
 
 // The refusal of a kind that no call has: reading the frame as a report finds it.

@@ -49,15 +49,14 @@ pub fn find(used: Used, table: &[u32], name: Name) -> Result<Found, Refusal>
     }
     let start = name.hash % t;
     for slot in (start..t).chain(0..start) {
-        let e = table[slot as usize];
-        if e == 0 {
+        let Some(b) = table[slot as usize].checked_sub(1) else {
             return Ok(Found::Unknown(slot));
-        }
-        if used.blocks <= e - 1 {
+        };
+        if used.blocks <= b {
             return Err(Refusal::Damaged);
         }
-        if holds_name(used.arena, e - 1, name) {
-            return Ok(Found::At(e - 1));
+        if holds_name(used.arena, b, name) {
+            return Ok(Found::At(b));
         }
     }
     Err(Refusal::Damaged)
@@ -91,9 +90,7 @@ pub fn first_entries(table: &[u32], hashes: &[u32], entries: &mut [u32])
     ensures { Entries table.now hashes.now entries.new }
 {
     let t = slots_of(table);
-    for (i, hash) in hashes.iter().enumerate() {
-        entries[i] = first_entry(table, t, *hash);
-    }
+    basics::map_into(hashes, entries, |hash| first_entry(table, t, hash));
 }
 
 // The length of the term in the head that an entry leads to.
@@ -112,9 +109,7 @@ pub fn first_lengths(used: Used, entries: &[u32], lengths: &mut [u8])
     requires { length entries.now ≤ length lengths.old }
     ensures { Lengths used.entry.arena.now used.entry.blocks entries.now lengths.new }
 {
-    for (i, entry) in entries.iter().enumerate() {
-        lengths[i] = length_behind(used, *entry);
-    }
+    basics::map_into(entries, lengths, |entry| length_behind(used, entry));
 }
 
 // The search for a folded term whose first entry, and the length behind it, are known.

@@ -93,9 +93,7 @@ pub fn fold(s: &[u8], into: &mut [u8])
     requires { length s.now ≤ length into.old }
     ensures { into.new ≡ sets into.old 0 (folded s.now) }
 {
-    for (i, b) in s.iter().enumerate() {
-        into[i] = fold_byte(*b);
-    }
+    basics::map_into(s, into, fold_byte);
 }
 
 // Judges folded bytes and takes their hash in one pass. A barred byte is folded to 0, so that the least byte tells whether there is one.

@@ -6,6 +6,7 @@ ghost use Rattle.std.specs.Prelude.{IfOk, IfSome, ◌≡◌, false, ◌+◌, ◌
 ghost use Rattle.terms.specs.Terms.{max_term};
 ghost use Rattle.frames.specs.Frames.{first_term, terms, passes_end, bad_term};
 
+use chains::ChainReader;
 use counters::Counters;
 use frames::{Cursors, Kind, Lines, MAX_FRAME, MAX_LINES, Query};
 use ingest::ReportAnswer;
@@ -35,7 +36,7 @@ fn print_count(rt: &impl Print, n: u32) -> io::Result<()> {
 // A space and the bytes in hexadecimal, `-` for none.
 fn print_bytes(rt: &impl Print, s: &[u8]) -> io::Result<()> {
     print(rt, " ")?;
-    if s.len() == 0 {
+    if s.is_empty() {
         print(rt, "-")?;
     }
     for b in s {
@@ -216,7 +217,13 @@ fn print_chain(rt: &impl Print, arena: &[u8], used: u32) -> io::Result<()>
     let reports = d.last;
     let mut place = chains::at_head(d, used, 0);
     while place.number < reports {
-        match chains::read_next(arena, used, reports, place) {
+        let reader = ChainReader {
+            arena,
+            used,
+            reports,
+            place,
+        };
+        match reader.next() {
             Ok(Some(step)) => {
                 print_word(rt, step.number)?;
                 print_count(rt, step.count)?;
@@ -239,7 +246,7 @@ fn open_first(arena: &mut [u8], term: &[u8], number: u32, count: u32)
 
 // Sort 6: the chain of one term, laid out in an arena of null bytes with its head at block 0.
 fn chain(rt: &impl Print, payload: &[u8]) -> io::Result<()> {
-    if payload.len() == 0 {
+    if payload.is_empty() {
         return Ok(());
     }
     let from = 1 + usize::from(payload[0]);
@@ -385,7 +392,7 @@ fn run_calls(
 // The table's entries in hexadecimal, `-` for none.
 fn print_table(rt: &impl Print, table: &[u32]) -> io::Result<()> {
     print(rt, " ")?;
-    if table.len() == 0 {
+    if table.is_empty() {
         print(rt, "-")?;
     }
     for entry in table {
@@ -465,5 +472,6 @@ fn answer_all(rt: &impl Print, questions: &[u8]) -> io::Result<()> {
 fn main(rt: HostRuntime) -> io::Result<()> {
     let mut questions = Vec::new(rt.alloc());
     rt.stdin().read_to_end(&mut questions)?;
-    answer_all(&rt, &questions)
+    let taken = questions.len().min(131072);
+    answer_all(&rt, &questions[..taken])
 }

@@ -20,13 +20,13 @@ bounds-table-slot c =
     let t = slot_turn c.loop-slot.invariant.meets _ _ c.loop-slot.yielded_by _ c.next.new.self c.next.ensures.steps c.in-Some.is in
     grind (arith, searching, t.0, t.1, c.loop-slot.invariant.meets.inside)
 
-pub returns-then-e-eq0 : goal.returns-then-e-eq0
-returns-then-e-eq0 c =
+pub returns-in_default : goal.returns-in_default
+returns-in_default c =
     let t = slot_turn c.loop-slot.invariant.meets _ _ c.loop-slot.yielded_by _ c.next.new.self c.next.ensures.steps c.in-Some.is in
     grind (arith, searching, t.0, t.1)
 
-pub returns-then-used-e : goal.returns-then-used-e
-returns-then-used-e c =
+pub returns-then-used-b : goal.returns-then-used-b
+returns-then-used-b c =
     let t = slot_turn c.loop-slot.invariant.meets _ _ c.loop-slot.yielded_by _ c.next.new.self c.next.ensures.steps c.in-Some.is in
     grind (arith, searching, t.0, t.1)
 

@@ -15,11 +15,11 @@ loop-place-init g c = unfold at_head in rw c.at_head-place.ensures (omega arith)
 pub loop-place-smaller : goal.loop-place-smaller
 loop-place-smaller g c =
     let t : Stepped c.args.arena.now c.args.used c.head_of-d.result.last c.loop-place.place c.in-Ok-Some.step.number c.in-Ok-Some.step.next
-    = step_follows _ _ _ _ (from-posting _ _ _ _ c.in-Ok-Some.step.number c.in-Ok-Some.step.count c.in-Ok-Some.step.next (sym c.read_next.ensures ∙ c.in-Ok-Some.is ∙ ap Ok c.in-Ok-Some.field-0-is)) in
+    = step_follows _ _ _ _ (from-posting _ _ _ _ c.in-Ok-Some.step.number c.in-Ok-Some.step.count c.in-Ok-Some.step.next (sym c.next.ensures ∙ c.in-Ok-Some.is ∙ ap Ok c.in-Ok-Some.field-0-is)) in
     omega (arith, t.number, t.ascends, t.within)
 
 pub loop-place-preserved : goal.loop-place-preserved
 loop-place-preserved g c =
     let t : Stepped c.args.arena.now c.args.used c.head_of-d.result.last c.loop-place.place c.in-Ok-Some.step.number c.in-Ok-Some.step.next
-    = step_follows _ _ _ _ (from-posting _ _ _ _ c.in-Ok-Some.step.number c.in-Ok-Some.step.count c.in-Ok-Some.step.next (sym c.read_next.ensures ∙ c.in-Ok-Some.is ∙ ap Ok c.in-Ok-Some.field-0-is)) in
+    = step_follows _ _ _ _ (from-posting _ _ _ _ c.in-Ok-Some.step.number c.in-Ok-Some.step.count c.in-Ok-Some.step.next (sym c.next.ensures ∙ c.in-Ok-Some.is ∙ ap Ok c.in-Ok-Some.field-0-is)) in
     omega (arith, t.number, t.within)
