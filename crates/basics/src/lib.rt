@@ -57,7 +57,7 @@ pub fn same_bytes(a: &[u8], b: &[u8]) -> bool
     a == b
 }
 
-// Writes what `f` gives at each element of `from` into the first places of `into`, in the same order. The other places stay.
+// Writes what `f` gives at each element of `from` into the first places of `into`, in order. The other places stay.
 pub fn map_into<T: Copy, U: Copy, F: Fn(T) -> U>(from: &[T], into: &mut [U], f: F)
     requires fits { length from.now ≤ length into.old }
     requires callable { F.IsAlwaysCallable f }
