@@ -1,5 +1,5 @@
-// What every crate above shares: 16-bit and 32-bit numbers in bytes, highest byte first, whether two slices are the same,
-// and what a function gives at each element of a slice. The laws on numbers, lists and tables stand in proofs/.
+// What every crate above shares: 16-bit and 32-bit numbers in bytes, highest byte first, whether two slices are the
+// same, and what a function gives at each element of a slice. The laws on numbers, lists and tables stand in proofs/.
 #![tactic(auto)]
 
 ghost use Rattle.std.specs.Prelude.{◌≡◌, ◌+◌, ◌*◌, ◌≤◌, ◌<◌, min, length, take, drop};
