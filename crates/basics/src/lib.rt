@@ -1,5 +1,5 @@
-// What every crate above shares: 16-bit and 32-bit numbers in bytes, highest byte first, whether two slices are the same,
-// and what a function gives at each element of a slice. The laws on numbers, lists and tables stand in proofs/.
+// What every crate above shares: 16-bit and 32-bit numbers in bytes, highest byte first, whether two slices are the
+// same, and what a function gives at each element of a slice. The laws on numbers, lists and tables stand in proofs/.
 #![tactic(auto)]
 
 ghost use Rattle.std.specs.Prelude.{◌≡◌, ◌+◌, ◌*◌, ◌≤◌, ◌<◌, min, length, take, drop};
@@ -57,7 +57,7 @@ pub fn same_bytes(a: &[u8], b: &[u8]) -> bool
     a == b
 }
 
-// Writes what `f` gives at each element of `from` into the first places of `into`, in the same order. The other places stay.
+// Writes what `f` gives at each element of `from` into the first places of `into`, in order. The other places stay.
 pub fn map_into<T: Copy, U: Copy, F: Fn(T) -> U>(from: &[T], into: &mut [U], f: F)
     requires fits { length from.now ≤ length into.old }
     requires callable { F.IsAlwaysCallable f }
