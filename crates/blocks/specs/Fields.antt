@@ -1,4 +1,5 @@
--- The arena and the fields of its blocks (document 01, "Memory lent to the index" and "Blocks"; source document 001, figure 3).
+-- The arena and the fields of its blocks (document 01, "Memory lent to the index" and "Blocks"; source document 001,
+-- figure 3).
 use Rattle.std.specs.Prelude.{ℕ, ◌+◌, ◌-◌, ◌*◌, ◌/◌, min, List, cond, eqb, length, get_or, take, drop}
 use Rattle.basics.specs.Words.{word_at}
 use Rattle.blocks.specs.declared.Head.{Head}
@@ -37,7 +38,8 @@ place b = block_size * b
 unfoldable pub link_of : List ℕ → ℕ → ℕ
 link_of a b = word_at a (place b)
 
--- of a head: the tail block, the last report, the number of postings, the write offset in the tail, the length of the term
+-- of a head: the tail block, the last report, the number of postings, the write offset in the tail, the length of the
+-- term
 unfoldable pub head_of : List ℕ → ℕ → Head
 head_of a h = record {
   tail = word_at a (place h + 4);
@@ -51,7 +53,8 @@ head_of a h = record {
 unfoldable pub name_of : List ℕ → ℕ → List ℕ
 name_of a h = take (get_or a (place h + 17) 0) (drop (place h + head_fixed) a)
 
--- where the postings of block b begin in the chain of head h: every block but the head itself is read as one of the other blocks
+-- where the postings of block b begin in the chain of head h: every block but the head itself is read as one of the
+-- other blocks
 unfoldable pub part_start : Head → ℕ → ℕ → ℕ
 part_start d h b = cond (eqb b h) (head_fixed + d.length) link_size
 

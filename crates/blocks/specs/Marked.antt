@@ -1,4 +1,5 @@
--- The twelve marked cases of document 01: ten postings, a single value, and the chain of a term of 36 bytes. One computed test shows them right.
+-- The twelve marked cases of document 01: ten postings, a single value, and the chain of a term of 36 bytes. One
+-- computed test shows them right.
 use Rattle.std.specs.Prelude.{ℕ, zero, suc, ◌+◌, ◌-◌, ◌*◌, List, [], ◌∷◌, ◌++◌, map, Bool, ◌&&◌, eqb, length, replicate}
 use Rattle.basics.specs.Lists.{all, same}
 use Rattle.postings.specs.Marked.{marked}

@@ -1,4 +1,5 @@
--- The blocks that a term's postings prescribe (document 01, "The plain ledger of demand 3"), as a function of the postings alone.
+-- The blocks that a term's postings prescribe (document 01, "The plain ledger of demand 3"), as a function of the
+-- postings alone.
 use Rattle.std.specs.Prelude.{ℕ, ◌+◌, ◌-◌, List, [], ◌∷◌, cond, leb, length}
 use Rattle.postings.specs.Coding.{code}
 use Rattle.blocks.specs.Fields.{block_size, head_fixed, link_size}
@@ -24,7 +25,8 @@ opened start p = record {
   last = p.number;
 }
 
--- one posting more: in the block reached if it fits by byte 63 with its d-gap, else at byte 4 of the next with its b-gap
+-- one posting more: in the block reached if it fits by byte 63 with its d-gap, else at byte 4 of the next with its
+-- b-gap
 unfoldable pub onward : Reach → Posting → Reach
 onward r p =
     let d = r.offset + length (code (p.number - r.last) p.count) in

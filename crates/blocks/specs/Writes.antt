@@ -39,8 +39,8 @@ add_to a h d n f =
     sets (sets a (place d.tail + d.end) (code (n - d.last) f)) (place h + 4)
     (changing d.tail n (d.postings + 1) (d.end + length (code (n - d.last) f)))
 
--- or block b becomes the tail, and its first posting carries a b-gap, counted from the first number of the block before;
--- the block before now leads to b
+-- or block b becomes the tail, and its first posting carries a b-gap, counted from the first number of the block
+-- before; the block before now leads to b
 unfoldable pub join_to : List ℕ → ℕ → Head → ℕ → ℕ → ℕ → List ℕ
 join_to a h d b n f =
     let c = code (n - link_of a d.tail) f in
@@ -50,7 +50,8 @@ join_to a h d b n f =
 unfoldable pub append : List ℕ → ℕ → ℕ → ℕ → ℕ → List ℕ
 append a h b n f = let d = head_of a h in cond (fits d n f) (add_to a h d n f) (join_to a h d b n f)
 
--- what one posting more needs of the head: head and tail lie in the arena, the write offset in the block, numbers ascend and postings can be counted
+-- what one posting more needs of the head: head and tail lie in the arena, the write offset in the block, numbers
+-- ascend and postings can be counted
 pub record Appends (a : List ℕ) (h : ℕ) (d : Head) (n : ℕ) : Type 0 where
   pub head_in : place h + block_size ≤ length a
   pub tail_in : place d.tail + block_size ≤ length a
@@ -58,8 +59,8 @@ pub record Appends (a : List ℕ) (h : ℕ) (d : Head) (n : ℕ) : Type 0 where
   pub ascends : d.last < n
   pub countable : d.postings < max_word
 
--- and where it goes to the tail: d is the head as it stands in the arena, and the write offset lies in the tail's postings part. So the posting
--- misses the head's tail field, which is not written again
+-- and where it goes to the tail: d is the head as it stands in the arena, and the write offset lies in the tail's
+-- postings part. So the posting misses the head's tail field, which is not written again
 pub record InTail (a : List ℕ) (h : ℕ) (d : Head) : Type 0 where
   pub stands : d ≡ head_of a h
   pub behind : part_start d h d.tail ≤ d.end

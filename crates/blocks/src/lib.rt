@@ -1,4 +1,5 @@
-// Blocks of the arena (document 01, "Blocks"): the fields of a head, opening a head for a new term, adding a posting, opening the next block.
+// Blocks of the arena (document 01, "Blocks"): the fields of a head, opening a head for a new term, adding a posting,
+// opening the next block.
 #![tactic(auto)]
 
 ghost use Rattle.std.specs.Prelude.{◌≡◌, true, [], ◌+◌, ◌-◌, ◌*◌, ◌≤◌, ◌<◌, length};
@@ -157,7 +158,8 @@ pub fn open_head(arena: &mut [u8], b: u32, name: &[u8], number: u32, count: u32)
     put_changing(arena, b, d);
 }
 
-// Whether a posting fits by byte 63 of the tail with its d-gap. A code has at most 10 bytes, so that its length matters only near the block's end.
+// Whether a posting fits by byte 63 of the tail with its d-gap. A code has at most 10 bytes, so that its length matters
+// only near the block's end.
 #[tactic(auto, using(crate::proofs::Writes::fitting), unfolding(crate::specs::Writes::fits))]
 pub fn fits_in(d: Head, number: u32, count: u32) -> bool
     requires { (d.last < number) × (d.end ≤ block_size) }

@@ -1,4 +1,5 @@
--- Reading a chain of blocks (document 01, "Blocks"; its damage as "Where each refusal is checked" lists it for listing).
+-- Reading a chain of blocks (document 01, "Blocks"; its damage as "Where each refusal is checked" lists it for
+-- listing).
 use Rattle.std.specs.Prelude.{ℕ, zero, suc, ◌+◌, ◌-◌, ◌≤◌, ◌<◌, List, [], ◌∷◌, Option, Some, None, Result, Ok, Err, Bool, true, false, cond, ◌&&◌, ◌||◌, ltb, leb, eqb, length, get_or}
 use Rattle.postings.specs.Coding.{decoded}
 use Rattle.postings.specs.declared.Decoded.{Decoded}
@@ -11,8 +12,9 @@ use Rattle.refusals.specs.declared.Refusal.{Refusal}
 use Rattle.refusals.specs.declared.Refusal.TheVariants.{Damaged}
 
 -- ---- one posting after another
--- A cursor is a place in a chain: the block and the offset in it, the last number read, the block's first number (0 before its first posting),
--- how many more blocks there can be, and from the head the tail block and the write offset there.
+-- A cursor is a place in a chain: the block and the offset in it, the last number read, the block's first number (0
+-- before its first posting), how many more blocks there can be, and from the head the tail block and the write offset
+-- there.
 
 -- where the postings part of block b ends
 unfoldable pub part_end : Cursor → ℕ → ℕ
@@ -37,7 +39,8 @@ at_end = Ok None
 abbrev pub damage : Stepped
 damage = Err Damaged
 
--- the posting that stands at the cursor, its gap counted from `base`: damage if there is none, or its number is not past the last one or over reports
+-- the posting that stands at the cursor, its gap counted from `base`: damage if there is none, or its number is not
+-- past the last one or over reports
 unfoldable pub given : ℕ → Cursor → ℕ → Option Decoded → Stepped
 given reports c base (Some d) =
     let n = base + d.gap in
@@ -138,7 +141,8 @@ unfoldable pub is_whole : Reading → Bool
 is_whole damaged = false
 is_whole (whole ps) = true
 
--- what following a cursor needs: its block is used, used blocks lie in the arena, and the write offset lies in the block
+-- what following a cursor needs: its block is used, used blocks lie in the arena, and the write offset lies in the
+-- block
 pub record Follows (a : List ℕ) (used : ℕ) (c : Cursor) : Type 0 where
   pub inside : place used ≤ length a
   pub in_use : c.block < used

@@ -20,18 +20,20 @@ unfoldable pub onward : (Passed → Passed) → ℕ → Passed → Option Decode
 onward rest reports p (Some d) = cond (leb (p.number + d.gap) reports) (rest (further p d.gap d.length)) p
 onward rest reports p None = p
 
--- reading on while numbers are below `to`: to the part's end, to a number at or past `to`, or to where no posting stands that can be passed. At
--- most `fuel` postings
+-- reading on while numbers are below `to`: to the part's end, to a number at or past `to`, or to where no posting
+-- stands that can be passed. At most `fuel` postings
 unfoldable pub pass_from : ℕ → List ℕ → ℕ → ℕ → Passed → Passed
 pass_from zero part reports to p = p
 pass_from (suc fuel) part reports to p =
     cond (ltb p.at (length part) && ltb p.number to) (onward (pass_from fuel part reports to) reports p (decoded (drop p.at part))) p
 
--- reading on from offset `at`, behind the posting of that number. A posting takes at least one byte, so a part has no more postings than bytes
+-- reading on from offset `at`, behind the posting of that number. A posting takes at least one byte, so a part has no
+-- more postings than bytes
 unfoldable pub passed : List ℕ → ℕ → ℕ → ℕ → ℕ → Passed
 passed part reports at number to = pass_from (length part) part reports to (sum_of at number)
 
--- a whole part: its first posting, whose gap counts from `base`, and all behind it. None where no posting stands there whose number is at most reports
+-- a whole part: its first posting, whose gap counts from `base`, and all behind it. None where no posting stands there
+-- whose number is at most reports
 unfoldable pub opened : List ℕ → ℕ → ℕ → ℕ → Option Decoded → Option PartRead
 opened part reports at base (Some d) =
     let first = base + d.gap in

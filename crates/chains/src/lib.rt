@@ -1,4 +1,5 @@
-// Chains of blocks (document 01, "Blocks"): a cursor that gives one posting after another, and reading a whole chain for damage.
+// Chains of blocks (document 01, "Blocks"): a cursor that gives one posting after another, and reading a whole chain
+// for damage.
 #![tactic(auto)]
 
 ghost use Rattle.std.specs.Prelude.{◌≡◌, cond, false, IfSome, ◌&&◌, ℕ, ◌+◌, ◌-◌, ◌≤◌, ◌<◌, ltb, eqb, length};
@@ -14,8 +15,8 @@ pub use part::{Part, Posting};
 use refusals::Refusal;
 use sums::Sum;
 
-// A place in a chain: the block and the offset in it, the last number read, the block's first number (0 before its first posting), how many more
-// blocks there can be; and from the head, the tail block and the write offset there.
+// A place in a chain: the block and the offset in it, the last number read, the block's first number (0 before its
+// first posting), how many more blocks there can be; and from the head, the tail block and the write offset there.
 #[derive(Clone, Copy, Default)]
 pub struct Cursor {
     pub tail: u32,
@@ -35,7 +36,8 @@ pub struct Step {
     pub next: Cursor,
 }
 
-// Whether the part of the cursor's block is read to its end: to the write offset in the tail, elsewhere to the block's end or a null byte.
+// Whether the part of the cursor's block is read to its end: to the write offset in the tail, elsewhere to the block's
+// end or a null byte.
 #[tactic(auto, unfolding(crate::specs::Chains::exhausted))]
 fn is_exhausted(arena: &[u8], c: Cursor) -> bool
     requires { place c.block + 64 ≤ length arena.now }
@@ -158,11 +160,13 @@ pub fn advance(used: Used, reports: u32, c: Cursor) -> Result<Option<Step>, Refu
 
 // ---- several steps within a block's part
 
-// Where reading on in a part stopped: the offset and the number behind the last posting passed, and how many were passed.
+// Where reading on in a part stopped: the offset and the number behind the last posting passed, and how many were
+// passed.
 pub type Passed = Sum<u32>;
 
-// Reads on in a block's part while numbers are below `to`: to the part's end, or to where no sound posting stands. One loop over plain numbers,
-// without a cursor for each posting. Where no number of the part is over reports, as in a chain that was read whole before, none is judged again.
+// Reads on in a block's part while numbers are below `to`: to the part's end, or to where no sound posting stands. One
+// loop over plain numbers, without a cursor for each posting. Where no number of the part is over reports, as in a
+// chain that was read whole before, none is judged again.
 pub fn pass<const JUDGED: bool>(
     part: &[u8],
     reports: u32,
@@ -193,8 +197,8 @@ pub fn pass<const JUDGED: bool>(
     p
 }
 
-// Reads on to the part's end, or to where no sound posting stands. All postings are added up before the last number is judged; only where that is over
-// reports, so that the part is damaged, it is read again for the posting that is.
+// Reads on to the part's end, or to where no sound posting stands. All postings are added up before the last number is
+// judged; only where that is over reports, so that the part is damaged, it is read again for the posting that is.
 #[tactic(auto, using(crate::proofs::Added::added_passed))]
 fn pass_all(part: &[u8], reports: u32, at: usize, number: u32) -> Passed
     requires { (number ≤ reports) × (length part.now ≤ block_size) }
@@ -218,7 +222,8 @@ pub fn moved(c: Cursor, at: usize, number: u32) -> Cursor
     Cursor { at, number, ..c }
 }
 
-// The cursor's place behind what is passed of its block's part, from behind its first posting on, in a chain that was read whole before.
+// The cursor's place behind what is passed of its block's part, from behind its first posting on, in a chain that was
+// read whole before.
 #[tactic(auto, using(crate::proofs::Steps::in_part, crate::proofs::Passing::passed_known), unfolding(crate::specs::Parts::passed_to))]
 pub fn pass_part(arena: &[u8], c: Cursor, to: u32) -> Cursor
     requires { InPart arena.now max_word c × Known arena.now max_word c }
@@ -306,8 +311,8 @@ pub fn at_head(d: Head, used: u32, h: u32) -> Cursor
     }
 }
 
-// Reads the part of the cursor's block from the cursor on: its first posting, whose gap counts from `base`, and those behind it. None where no
-// sound posting stands there.
+// Reads the part of the cursor's block from the cursor on: its first posting, whose gap counts from `base`, and those
+// behind it. None where no sound posting stands there.
 #[tactic(auto, using(crate::proofs::Steps::in_part), unfolding(crate::specs::Parts::part_read, crate::specs::Parts::opened))]
 fn read_part(arena: &[u8], reports: u32, c: Cursor, base: u32) -> Option<PartRead>
     requires { (place c.block + 64 ≤ length arena.now) × (c.end ≤ block_size) × (base ≤ reports) }
@@ -333,8 +338,9 @@ fn agrees(d: Head, n: u32, number: u32) -> bool
     n == d.postings && number == d.last
 }
 
-// Reads the chain of head h whole: whether it is sound. Each turn reads a block; `base` is the first number of the block before, 0 at the head. The
-// next block's link is asked for before this one is read: its load misses the caches, and so it overlaps with the reading.
+// Reads the chain of head h whole: whether it is sound. Each turn reads a block; `base` is the first number of the
+// block before, 0 at the head. The next block's link is asked for before this one is read: its load misses the caches,
+// and so it overlaps with the reading.
 pub fn is_sound(used: Used, reports: u32, h: u32) -> bool
     requires { h < used.blocks }
     ensures { result ≡ is_whole (chain_of used.entry.arena.now used.entry.blocks reports h) }

@@ -13,7 +13,8 @@ pub struct Posting {
     pub count: u32,
 }
 
-// The bytes of a block's part and a place behind one of its postings. No number behind it is over 32 bits, so that none is judged again.
+// The bytes of a block's part and a place behind one of its postings. No number behind it is over 32 bits, so that none
+// is judged again.
 #[derive(Clone, Copy)]
 pub struct Part<'a> {
     bytes: &'a [u8],

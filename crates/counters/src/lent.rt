@@ -8,8 +8,8 @@ use crate::{Counters, are_wrong};
 use blocks::Used;
 use refusals::Refusal;
 
-// What a call that writes nothing is lent, once refusal 8 is past. What a slice knows of its bytes is not known of a field,
-// so it is said.
+// What a call that writes nothing is lent, once refusal 8 is past. What a slice knows of its bytes is not known of a
+// field, so it is said.
 #[derive(Clone, Copy)]
 pub struct Lent<'a> {
     pub arena: &'a [u8],

@@ -56,12 +56,13 @@ answered m f = answered_as (kind_of f) m f
 unfoldable pub overlong : List ℕ → Bool
 overlong s = ltb max_body (body_length s)
 
--- the bytes of the frame at the front: the three before the body, and the body. Of a frame with a length over 4,096 the first four bytes are judged,
--- which is what refusals 1 and 2 look at
+-- the bytes of the frame at the front: the three before the body, and the body. Of a frame with a length over 4,096 the
+-- first four bytes are judged, which is what refusals 1 and 2 look at
 unfoldable pub frame_length : List ℕ → ℕ
 frame_length s = cond (overlong s) 4 (3 + body_length s)
 
--- the frame at the front of the input. Where the input ends before it does, that is all that is left: a cut frame, judged as the bytes at hand
+-- the frame at the front of the input. Where the input ends before it does, that is all that is left: a cut frame,
+-- judged as the bytes at hand
 unfoldable pub front_frame : List ℕ → List ℕ
 front_frame s = take (frame_length s) s
 

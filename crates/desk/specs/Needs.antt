@@ -9,7 +9,8 @@ use Rattle.desk.specs.declared.Settled.{Settled}
 use Rattle.desk.specs.Text.{pairs_text, places_text}
 use Rattle.desk.specs.Desk.{started, Answered, frame_length, frames, lines_of, memory_after}
 
--- a text stands in the buffer from `at` on, all other bytes are as they were, and `end` is the place behind it, at most `most` bytes on
+-- a text stands in the buffer from `at` on, all other bytes are as they were, and `end` is the place behind it, at most
+-- `most` bytes on
 pub record Puts (most : ℕ) (out : List ℕ) (at : ℕ) (text : List ℕ) (end : ℕ) (after : List ℕ) : Type 0 where
   pub ends : end ≡ at + length text
   pub stored : after ≡ sets out at text
@@ -33,7 +34,8 @@ pub record Answers (a : Answered) (out : List ℕ) (at : ℕ) (r : Answer) (left
 abbrev pub longest_frame : ℕ
 longest_frame = 4099
 
--- how many bytes at the front can be judged now: the whole frame; where the input has ended, whatever is left; else none
+-- how many bytes at the front can be judged now: the whole frame; where the input has ended, whatever is left; else
+-- none
 unfoldable pub ready_length : Bool → List ℕ → Option ℕ
 ready_length ended s = cond (leb (frame_length s) (length s)) (Some (frame_length s)) (cond (ended && ltb 0 (length s)) (Some (length s)) None)
 
@@ -53,8 +55,9 @@ frames_after Settle s = frames s
 frames_after Read s = frames s
 frames_after Stop s = []
 
--- some frames at the front of the bytes at hand have been answered: whatever comes behind those bytes, the frames of it all are these and then those
--- of what is left. Their lines stand at the front of the output, all else in it is as it was, and the memory is as they leave it
+-- some frames at the front of the bytes at hand have been answered: whatever comes behind those bytes, the frames of it
+-- all are these and then those of what is left. Their lines stand at the front of the output, all else in it is as it
+-- was, and the memory is as they leave it
 pub record Settles (m : Memory) (s : List ℕ) (ended : Bool) (out : List ℕ) (r : Settled) (left : Memory) (after : List ℕ) : Type 0 where
   pub done : List (List ℕ)
   pub cut : (t : List ℕ) → Comes ended t → frames (s ++ t) ≡ done ++ frames_after r.next (drop r.taken s ++ t)
@@ -78,8 +81,8 @@ pub record Reads {E : Type 0} (input : List ℕ) (held : ℕ) (r : Result ℕ E)
   pub kept : take held after ≡ take held input
   pub room : IfOk r (λ n. held + n ≤ length after)
 
--- the program between two turns: it has read `read` and answered the frames `done`, and so its memory is as they leave it; whatever comes, the frames of
--- it all are these and then those of what is held and what comes
+-- the program between two turns: it has read `read` and answered the frames `done`, and so its memory is as they leave
+-- it; whatever comes, the frames of it all are these and then those of what is held and what comes
 pub record Reached (m : Memory) (held : List ℕ) (ended : Bool) : Type 0 where
   pub read : List ℕ
   pub done : List (List ℕ)

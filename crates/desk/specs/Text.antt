@@ -32,7 +32,8 @@ letter_r = 82
 
 -- ---- numbers
 
--- a number in decimal digits, highest first; a number below ten is one digit, so zero is `0` and no other number starts with it
+-- a number in decimal digits, highest first; a number below ten is one digit, so zero is `0` and no other number starts
+-- with it
 unfoldable pub decimal_up_to : ℕ → ℕ → List ℕ
 decimal_up_to zero n = []
 decimal_up_to (suc fuel) n =

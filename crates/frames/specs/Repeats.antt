@@ -20,8 +20,8 @@ chain earlier at = chain_up_to at earlier at
 abbrev pub slots : ℕ
 slots = 820
 
--- what following a chain needs: every offset of the frame has its slot, a slot leads to an offset before all that have it, and a whole line
--- stands at each but 0
+-- what following a chain needs: every offset of the frame has its slot, a slot leads to an offset before all that have
+-- it, and a whole line stands at each but 0
 pub record Chained (f : List ℕ) (earlier : List ℕ) (last : ℕ) : Type 0 where
   pub room : length f ≤ 5 * slots
   pub falls : (slot : ℕ) → get_or earlier slot 0 ≤ 5 * slot - 1

@@ -1,5 +1,5 @@
-// The outer calls of the index (document 01, "Memory lent to the index"): thin over the cores that take the counters by value. crates/index_c
-// exports them for C and Rust under these names; include/report_index.h documents them.
+// The outer calls of the index (document 01, "Memory lent to the index"): thin over the cores that take the counters by
+// value. crates/index_c exports them for C and Rust under these names; include/report_index.h documents them.
 #![tactic(auto)]
 
 ghost use Rattle.std.specs.Prelude.{◌≡◌, [], length, replicate};

@@ -1,5 +1,5 @@
-// The outer calls of the index for C and for Rust: a static library over crates/index, with one export for each call. Each export calls the
-// function of the same name and states its clauses again; include/report_index.h documents them.
+// The outer calls of the index for C and for Rust: a static library over crates/index, with one export for each call.
+// Each export calls the function of the same name and states its clauses again; include/report_index.h documents them.
 #![tactic(auto)]
 
 ghost use Rattle.std.specs.Prelude.{◌≡◌, []};

@@ -1,5 +1,5 @@
--- What the private functions of this crate need of the memory that they are lent, once refusals 8 and 9 are past, and how they make plans, write
--- a line and refuse.
+-- What the private functions of this crate need of the memory that they are lent, once refusals 8 and 9 are past, and
+-- how they make plans, write a line and refuse.
 use Rattle.std.specs.Prelude.{ℕ, ◌+◌, ◌≤◌, ◌<◌, ◌≡◌, Result, Ok, Err, MatchResult, true, false, cond, List, [], ◌∷◌, eqb}
 use Rattle.frames.specs.Frames.{max_body, Line}
 use Rattle.frames.specs.Refusals.{first_of}

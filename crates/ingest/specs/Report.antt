@@ -33,8 +33,8 @@ line_of w f = record { term = w; count = f }
 abbrev pub Placed : Type 0
 Placed = Result Place Refusal
 
--- damage of a known term when a report is taken: its tail is not used, the write offset is out of place, or last report, tail's first number or
--- number of postings is over reports
+-- damage of a known term when a report is taken: its tail is not used, the write offset is out of place, or last
+-- report, tail's first number or number of postings is over reports
 unfoldable pub damaged_head : List ℕ → Counters → ℕ → Head → Bool
 damaged_head a k h d =
     bad_head d k.used h || (ltb k.reports d.last || (ltb k.reports (link_of a d.tail) || ltb k.reports d.postings))
@@ -115,7 +115,8 @@ written m n l (Ok (New s)) = record {
 }
 written m n l (Err r) = m
 
--- the lines in frame order. Each is judged afresh when its turn comes: where 10, 11 or 12 would then hold, writing stops there
+-- the lines in frame order. Each is judged afresh when its turn comes: where 10, 11 or 12 would then hold, writing
+-- stops there
 pub record Writing : Type 0 where
   pub stopped : Bool
   pub left : Memory

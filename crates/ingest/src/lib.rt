@@ -70,8 +70,8 @@ type Marks = [bool; MARKS];
 
 // ---- where a line goes
 
-// An arena with its counters, past refusals 8 and 9: the used blocks lie in it, and another report can be numbered. What a
-// slice knows of its bytes is not known of a field, so it is said.
+// An arena with its counters, past refusals 8 and 9: the used blocks lie in it, and another report can be numbered.
+// What a slice knows of its bytes is not known of a field, so it is said.
 #[derive(Clone, Copy)]
 struct Arena<'a> {
     bytes: &'a [u8],
@@ -166,10 +166,10 @@ impl Plan {
     }
 }
 
-// The places of all lines on the memory as it is. The first slots of all lines, and then the heads that they lead to, are
-// asked for before the first is compared: their loads miss the caches, and so they overlap. `kept` first has the entries
-// of these slots; an entry stays there for its line's turn where the term was found right there, else it becomes 0, which
-// stands for none as it does in the table.
+// The places of all lines on the memory as it is. The first slots of all lines, and then the heads that they lead to,
+// are asked for before the first is compared: their loads miss the caches, and so they overlap. `kept` first has the
+// entries of these slots; an entry stays there for its line's turn where the term was found right there, else it
+// becomes 0, which stands for none as it does in the table.
 fn plan_lines(
     arena: Arena,
     table: &[u32],
@@ -226,7 +226,8 @@ fn mark_tail(marks: &mut Marks, h: u32, tail: u32)
 }
 
 // A line of a known term, judged afresh: its posting goes into the tail, or where it does not fit there into the next
-// block. The head that is judged is the one that is written to, so it is read once. Table and term have no part in this.
+// block. The head that is judged is the one that is written to, so it is read once. Table and term have no part in
+// this.
 fn append_line(
     arena: &mut [u8],
     k: Counters,
@@ -285,8 +286,8 @@ fn open_line(
     })
 }
 
-// Looks a line's term up again at its turn. The head that a kept entry leads to still holds the term unless it is marked,
-// so that the search is left out there.
+// Looks a line's term up again at its turn. The head that a kept entry leads to still holds the term unless it is
+// marked, so that the search is left out there.
 fn find_again(used: Used, table: &[u32], turn: Turn, marks: &Marks) -> Result<Found, Refusal>
     requires { KeptRight used.arena.now used.blocks table.now turn.line.name.bytes.now turn.kept marks.now }
     ensures { result ≡ search used.entry.arena.now used.entry.blocks table.now turn.entry.line.name.bytes.now }

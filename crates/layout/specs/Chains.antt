@@ -1,4 +1,5 @@
--- A term's postings laid out as a chain of blocks (document 01, "Blocks"): which posting goes to which block, and with which gap.
+-- A term's postings laid out as a chain of blocks (document 01, "Blocks"): which posting goes to which block, and with
+-- which gap.
 use Rattle.std.specs.Prelude.{ℕ, ◌+◌, ◌-◌, ◌≤◌, ◌<◌, List, [], ◌∷◌, ◌++◌, Bool, true, false, leb, length, get_or}
 use Rattle.postings.specs.Coding.{code}
 use Rattle.blocks.specs.Fields.{max_word, block_size}
@@ -32,8 +33,8 @@ unfoldable pub codes : List Entry → List ℕ
 codes [] = []
 codes (e ∷ es) = coded e ++ codes es
 
--- a block holds one entry at least. The gap of its first counts from the first number of the block before (a b-gap; in the head from 0),
--- that of any other from the number before (a d-gap)
+-- a block holds one entry at least. The gap of its first counts from the first number of the block before (a b-gap; in
+-- the head from 0), that of any other from the number before (a d-gap)
 pub record Block : Type 0 where
   pub opening : Entry
   pub others : List Entry

@@ -1,5 +1,6 @@
--- What stands in the arena is what was put in. An index starts empty; a new term, and a posting more, are written so that the arena then holds
--- the index with them; and reading a term's chain gives exactly its postings, over any number of joins.
+-- What stands in the arena is what was put in. An index starts empty; a new term, and a posting more, are written so
+-- that the arena then holds the index with them; and reading a term's chain gives exactly its postings, over any number
+-- of joins.
 use Rattle.std.specs.Prelude.{ℕ, suc, ◌≤◌, ◌<◌, ◌≡◌, List, length}
 use Rattle.terms.specs.Terms.{max_term}
 use Rattle.blocks.specs.Fields.{place, link_of, head_of, name_of}

@@ -1,4 +1,5 @@
-// The index as it stands in the arena: held terms, the blocks of their chains, and that reading gives back what was written. Theorems only.
+// The index as it stands in the arena: held terms, the blocks of their chains, and that reading gives back what was
+// written. Theorems only.
 #![tactic(auto)]
 
 ghost use Rattle.layout.specs.Claims.{ReadsBack};

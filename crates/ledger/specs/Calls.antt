@@ -1,4 +1,5 @@
--- Lists of calls, run by the index and by the plain ledger, and demand 3: both agree (document 01, "The plain ledger of demand 3").
+-- Lists of calls, run by the index and by the plain ledger, and demand 3: both agree (document 01, "The plain ledger of
+-- demand 3").
 use Rattle.std.specs.Prelude.{ℕ, ◌<◌, ◌≡◌, List, [], ◌∷◌, false, cond, eqb, length, get_or, replicate}
 use Rattle.frames.specs.Frames.{query_refusal}
 use Rattle.counters.specs.declared.Counters.{Counters}
@@ -10,7 +11,8 @@ use Rattle.ledger.specs.Ledger.{Report, start_of, named_by, names, prescribed_bl
 
 -- ---- calls and what they answer
 
--- a start; a report, with its frame; a listing of one term, with its frame and the two lists lent to it; one of all terms, with its frame and its list
+-- a start; a report, with its frame; a listing of one term, with its frame and the two lists lent to it; one of all
+-- terms, with its frame and its list
 pub data Call : Type 0 where
   start : Call
   report : List ℕ → Call
@@ -97,7 +99,8 @@ pub record Counted (k : Counters) (rs : List Report) : Type 0 where
   pub terms : k.terms ≡ length (names rs)
   pub reports : k.reports ≡ length rs
 
--- an index of any make: what a call does in a state, the counters that the state shows, and how many bytes and entries it was lent
+-- an index of any make: what a call does in a state, the counters that the state shows, and how many bytes and entries
+-- it was lent
 pub record Make (S : Type 0) : Type 0 where
   pub step : S → Call → Step S
   pub counters : S → Counters
@@ -108,7 +111,8 @@ pub record Make (S : Type 0) : Type 0 where
 abbrev pub ledger_by : {S : Type 0} → Make S → S → List Report → Call → Step (List Report)
 ledger_by x s = ledger_step (x.bytes s) (x.entries s)
 
--- a start and calls behind it, in any state and beside any ledger: every answer and every lent list is the same, and at the end the counters are right
+-- a start and calls behind it, in any state and beside any ledger: every answer and every lent list is the same, and at
+-- the end the counters are right
 pub record Agree {S : Type 0} (x : Make S) (s : S) (rs : List Report) (cs : List Call) : Type 0 where
   pub same_answers : answers x.step s (start ∷ cs) ≡ answers (ledger_by x s) rs (start ∷ cs)
   pub right_counters : Counted (x.counters (final x.step s (start ∷ cs))) (final (ledger_by x s) rs (start ∷ cs))

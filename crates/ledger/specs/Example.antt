@@ -1,4 +1,5 @@
--- Document 01's desk example as calls, and what it prints for them (document 01, "The desk program"). The lists hold 9 wherever nothing is filled.
+-- Document 01's desk example as calls, and what it prints for them (document 01, "The desk program"). The lists hold 9
+-- wherever nothing is filled.
 use Rattle.std.specs.Prelude.{◌≡◌, List, [], ◌∷◌, false}
 use Rattle.ledger.specs.Ledger.{told}
 use Rattle.ledger.specs.Calls.{Call, report, one-term, all-terms, Answer, taken, of_one, of_all, ledger_step, answers}

@@ -1,4 +1,5 @@
--- The plain ledger (document 01, "The plain ledger of demand 3"): a list of reports, numbered from 1, each a list of folded terms with counts.
+-- The plain ledger (document 01, "The plain ledger of demand 3"): a list of reports, numbered from 1, each a list of
+-- folded terms with counts.
 use Rattle.std.specs.Prelude.{ℕ, zero, suc, ◌+◌, ◌/◌, List, [], ◌∷◌, ◌++◌, map, Bool, true, false, cond, ◌&&◌, ltb, leb, eqb, length, take, drop}
 use Rattle.basics.specs.Lists.{all, any, same}
 use Rattle.basics.specs.Words.{word_at}

@@ -1,4 +1,5 @@
--- Demand 1: how every call ends (document 01, "Where each refusal is checked"). The rows of a call are the conditions of its refusals in the order of the paper.
+-- Demand 1: how every call ends (document 01, "Where each refusal is checked"). The rows of a call are the conditions
+-- of its refusals in the order of the paper.
 use Rattle.std.specs.Prelude.{ℕ, ◌<◌, ◌≡◌, true, false, List, [], ◌∷◌}
 use mathlib.Core.Logic.{◌⊎◌}
 use Rattle.frames.specs.Refusals.{Row}
@@ -19,7 +20,8 @@ pub data First : List Row → ℕ → Type 0 where
   here : {r : Row} {rs : List Row} → r.holds ≡ true → First (r ∷ rs) r.number
   later : {r : Row} {rs : List Row} {n : ℕ} → r.holds ≡ false → First rs n → First (r ∷ rs) n
 
--- a call with these rows gives refusal n: it is 0 and no row holds; or it is the number of the first row that holds, and all is kept as it was
+-- a call with these rows gives refusal n: it is 0 and no row holds; or it is the number of the first row that holds,
+-- and all is kept as it was
 pub data Ends (rows : List Row) (n : ℕ) (Kept : Type 0) : Type 0 where
   accepted : n ≡ 0 → Clear rows → Ends rows n Kept
   refused : 0 < n → First rows n → Kept → Ends rows n Kept
@@ -34,14 +36,16 @@ Judged m f =
 abbrev pub writing : Memory → List ℕ → Writing
 writing m f = write_lines m (next_number m.counters) (report_lines f)
 
--- 13: no row holds, and writing stops at a line. What the lines before left stays, and the number of reports is as it was
+-- 13: no row holds, and writing stops at a line. What the lines before left stays, and the number of reports is as it
+-- was
 pub record Stops (m : Memory) (f : List ℕ) : Type 0 where
   pub clear : Clear (call_rows m f)
   pub at_line : (writing m f).stopped ≡ true
   pub leaves : report_call m f ≡ record { answer = record { refusal = 13; number = 0 }; left = (writing m f).left }
   pub reports : (writing m f).left.counters.reports ≡ m.counters.reports
 
--- a listing that is refused fills nothing, says that none remain and leaves the lent lists as they were; no listing changes the memory
+-- a listing that is refused fills nothing, says that none remain and leaves the lent lists as they were; no listing
+-- changes the memory
 abbrev pub OneEnds : Memory → List ℕ → List ℕ → List ℕ → Type 0
 OneEnds m f numbers counts =
     let n = (list_one_call m f numbers counts).answer.refusal in

@@ -11,7 +11,8 @@ pub record Same (a b : Memory) : Type 0 where
   pub table : a.table ≡ b.table
   pub blocks : take (place a.counters.used) a.arena ≡ take (place b.counters.used) b.arena
 
--- of any two lists of calls, each behind a start, on two memories whose tables have one length: where the ledgers end equal, the memories do
+-- of any two lists of calls, each behind a start, on two memories whose tables have one length: where the ledgers end
+-- equal, the memories do
 abbrev pub SameState : Type 0
 SameState =
     (m m' : Memory) (rs rs' : List Report) (cs cs' : List Call) → Framed cs → Framed cs' → length m.table ≡ length m'.table

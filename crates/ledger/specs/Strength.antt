@@ -1,4 +1,5 @@
--- What demand 3 shuts out (document 01, "Strength of the contracts", c): six wrong indexes. Each is the ledger itself with the right counters, but for one fault.
+-- What demand 3 shuts out (document 01, "Strength of the contracts", c): six wrong indexes. Each is the ledger itself
+-- with the right counters, but for one fault.
 use Rattle.std.specs.Prelude.{ℕ, List, [], ◌∷◌, ◌++◌, map, false, eqb, length, replicate}
 use Rattle.basics.specs.Lists.{keep}
 use Rattle.blocks.specs.Prescribed.{prescribed}
@@ -66,7 +67,8 @@ no_more (taken a) = taken a
 no_more (of_one l) = of_one (record { answer = told l.answer.refusal false l.answer.filled; numbers = l.numbers; counts = l.counts })
 no_more (of_all l) = of_all (record { answer = told l.answer.refusal false l.answer.filled; numbers = l.numbers })
 
--- answers 12 to all reports; lists nothing ever; numbers reports but stores no lines; stores only each term's first block; makes up a count; says "no more"
+-- answers 12 to all reports; lists nothing ever; numbers reports but stores no lines; stores only each term's first
+-- block; makes up a count; says "no more"
 unfoldable pub faults : List Fault
 faults =
     record { kept = as_is; seen = as_is; answered = always_full }

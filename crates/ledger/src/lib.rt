@@ -10,7 +10,8 @@ ghost use Rattle.ledger.specs.Strength.{Strength};
 
 // The claims, each as a contract, so that the gate fails without it.
 
-// Demand 1: a refusal is the first of the call's rows that holds, and it changes nothing; 13 leaves what the lines before left.
+// Demand 1: a refusal is the first of the call's rows that holds, and it changes nothing; 13 leaves what the lines
+// before left.
 #[tactic(auto, using(crate::proofs::Refusing::refuses))]
 pub fn refuses_rightly()
     ensures { Refuses }
@@ -33,7 +34,8 @@ pub fn example_holds()
     ensures { Example }
 {}
 
-// The consequence for refusal 12: a report that no earlier rule refuses meets it exactly when the prescribed blocks outnumber the arena's.
+// The consequence for refusal 12: a report that no earlier rule refuses meets it exactly when the prescribed blocks
+// outnumber the arena's.
 #[tactic(auto, using(crate::proofs::Room::no_room))]
 pub fn no_room()
     ensures { NoRoom }

@@ -19,8 +19,8 @@ slots table = slots_in (length table)
 unfoldable pub next_slot : ℕ → ℕ → ℕ
 next_slot t s = cond (eqb (s + 1) t) 0 (s + 1)
 
--- from slot s to a match or an empty slot; `left` slots are still to be met. Damage: a slot met whose block is not used, or all slots
--- filled and none a match
+-- from slot s to a match or an empty slot; `left` slots are still to be met. Damage: a slot met whose block is not
+-- used, or all slots filled and none a match
 unfoldable pub search_from : ℕ → List ℕ → ℕ → List ℕ → List ℕ → ℕ → Result Found Refusal
 search_from zero a used table name s = Err Damaged
 search_from (suc left) a used table name s =

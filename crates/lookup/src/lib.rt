@@ -37,8 +37,8 @@ fn holds_name(arena: &[u8], b: u32, name: Name) -> bool
     usize::from(arena[at + 17]) == n && basics::same_bytes(&arena[at + 18..at + 18 + n], name.bytes)
 }
 
-// The search for a folded term: from the slot of its hash, one slot on and wrapping, to a match or an empty slot. Refused as damaged where a slot leads
-// to no used block, or all slots are filled and none is a match.
+// The search for a folded term: from the slot of its hash, one slot on and wrapping, to a match or an empty slot.
+// Refused as damaged where a slot leads to no used block, or all slots are filled and none is a match.
 #[tactic(auto, using(crate::proofs::Search::searching))]
 pub fn find(used: Used, table: &[u32], name: Name) -> Result<Found, Refusal>
     ensures { result ≡ search used.entry.arena.now used.entry.blocks table.now name.entry.bytes.now }
@@ -84,7 +84,8 @@ fn first_entry(table: &[u32], t: u32, hash: u32) -> u32
     }
 }
 
-// The entries where the searches for several hashes begin, all asked for before any of them is compared, so that slow reads overlap.
+// The entries where the searches for several hashes begin, all asked for before any of them is compared, so that slow
+// reads overlap.
 pub fn first_entries(table: &[u32], hashes: &[u32], entries: &mut [u32])
     requires { length hashes.now ≤ length entries.old }
     ensures { Entries table.now hashes.now entries.new }

@@ -25,7 +25,8 @@ max_second = max_count - 3
 
 -- ---- coding
 
--- a value, seven bits at a time, lowest first; a byte that another follows has 128 added. At most `fuel` bytes follow the first
+-- a value, seven bits at a time, lowest first; a byte that another follows has 128 added. At most `fuel` bytes follow
+-- the first
 unfoldable pub groups : ℕ → ℕ → List ℕ
 groups zero n = n ∷ []
 groups (suc fuel) n =
@@ -58,7 +59,8 @@ unfoldable pub onto : ℕ → Option Value → Option Value
 onto b (Some n) = valued (b - 128 + 128 * n.value) (n.length + 1)
 onto b None = None
 
--- the value at the front and the bytes it takes: bytes from 128 to 255, then one from 1 to 127. A null last byte is no shortest code
+-- the value at the front and the bytes it takes: bytes from 128 to 255, then one from 1 to 127. A null last byte is no
+-- shortest code
 unfoldable pub value : List ℕ → Option Value
 value [] = None
 value (b ∷ s) = cond (ltb b 128) (cond (ltb 0 b) (valued b 1) None) (cond (ltb b 256) (onto b (value s)) None)

@@ -1,4 +1,5 @@
--- The marked cases of document 01, "Coding a posting". The blocks crate joins the marked chain to them and shows all twelve right by one computed test.
+-- The marked cases of document 01, "Coding a posting". The blocks crate joins the marked chain to them and shows all
+-- twelve right by one computed test.
 use Rattle.std.specs.Prelude.{ℕ, List, [], ◌∷◌, Option, Some, None, Bool, false, ◌&&◌, eqb, length}
 use Rattle.basics.specs.Lists.{same}
 use Rattle.postings.specs.declared.Decoded.{Decoded}

@@ -1,4 +1,5 @@
--- What the functions of this crate share: a named term's chain, the postings of a head, and cursors that move forward together.
+-- What the functions of this crate share: a named term's chain, the postings of a head, and cursors that move forward
+-- together.
 use Rattle.std.specs.Prelude.{◌≡◌, ℕ, suc, ◌+◌, ◌-◌, ◌≤◌, ◌<◌, List, [], map, Option, Some, None, Result, Ok, Err, Bool, true, false, cond, ◌||◌, ltb, leb, eqb, length, get_or, take, set}
 use Rattle.basics.specs.Lists.{keep}
 use Rattle.refusals.specs.declared.Refusal.{Refusal}
@@ -29,7 +30,8 @@ answer_as (Err r) = refused (number_of r)
 
 -- ---- one term
 
--- the head of a term's chain as the search found it: none where the term is unknown, and damage where the chain is not whole
+-- the head of a term's chain as the search found it: none where the term is unknown, and damage where the chain is not
+-- whole
 unfoldable pub chain_as : List ℕ → Counters → Result Found Refusal → Result (Option ℕ) Refusal
 chain_as a k (Ok (At h)) = cond (is_whole (chain_of a k.used k.reports h)) (Ok (Some h)) (Err Damaged)
 chain_as a k (Ok (Unknown s)) = Ok None
@@ -48,7 +50,8 @@ from_start a k h start = keep (λ p. leb start p.number) (postings_in (chain_of 
 abbrev pub filled_as : ListAnswer → List ℕ → List ℕ → ListedOne
 filled_as r numbers counts = record { answer = r; numbers = numbers; counts = counts }
 
--- lists filled while a cursor moves on within a part: before the start a posting is passed over, from there on it is stored in the next place
+-- lists filled while a cursor moves on within a part: before the start a posting is passed over, from there on it is
+-- stored in the next place
 pub data Fills (a : List ℕ) (reports start : ℕ) (c₀ : Cursor) (numbers₀ counts₀ : List ℕ) (n₀ : ℕ) : Cursor → List ℕ → List ℕ → ℕ → Type 0 where
   none : Fills a reports start c₀ numbers₀ counts₀ n₀ c₀ numbers₀ counts₀ n₀
   over : {c c' : Cursor} {numbers counts : List ℕ} {n m f : ℕ} → Fills a reports start c₀ numbers₀ counts₀ n₀ c numbers counts n
@@ -58,7 +61,8 @@ pub data Fills (a : List ℕ) (reports start : ℕ) (c₀ : Cursor) (numbers₀ 
       → exhausted a c ≡ false → read_at a reports c c.number ≡ stepped m f c' → start ≤ m → n < length numbers → n < length counts
       → Fills a reports start c₀ numbers₀ counts₀ n₀ c' (set numbers n m) (set counts n f) (n + 1)
 
--- and they are filled as far as they can be: where both have room and the part is not at its end, no posting can be read
+-- and they are filled as far as they can be: where both have room and the part is not at its end, no posting can be
+-- read
 pub record FillsOut (a : List ℕ) (reports start : ℕ) (c₀ : Cursor) (numbers₀ counts₀ : List ℕ) (n₀ : ℕ) (c : Cursor) (numbers counts : List ℕ) (n : ℕ) : Type 0 where
   pub fills : Fills a reports start c₀ numbers₀ counts₀ n₀ c numbers counts n
   pub stops : n < length numbers → n < length counts → c.at < part_end c c.block → read_at a reports c c.number ≡ damage
@@ -89,8 +93,8 @@ pub record Passing (a : List ℕ) (k : Counters) (c : Cursor) (number : ℕ) (r 
   pub stands : Stands a k r
   pub same : (n : ℕ) → number ≤ n → ahead a k c n ≡ ahead a k r n
 
--- by whole blocks, as far as they can be passed: it stopped behind a posting of the tail, or of a block behind which the next one begins with a
--- number over `number`
+-- by whole blocks, as far as they can be passed: it stopped behind a posting of the tail, or of a block behind which
+-- the next one begins with a number over `number`
 pub record Skipped (a : List ℕ) (k : Counters) (c : Cursor) (number : ℕ) (r : Cursor) : Type 0 where
   pub passing : Passing a k c number r
   pub forward : c.number ≤ r.number

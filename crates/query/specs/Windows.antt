@@ -18,7 +18,8 @@ pub data Marking (a : List ℕ) (k : Counters) (base to : ℕ) (c₀ : Cursor) (
   on : {c c' : Cursor} {m n f : ℕ} → Marking a k base to c₀ m₀ c m → c.number < to → step_at a k.used k.reports c ≡ stepped n f c'
       → Marking a k base to c₀ m₀ c' (with_mark base to m n)
 
--- the reports of a chain from cursor c up to `to` are marked, and no others; cursor r is c moved on to the first report at or past `to`
+-- the reports of a chain from cursor c up to `to` are marked, and no others; cursor r is c moved on to the first report
+-- at or past `to`
 pub record MarkedTo (a : List ℕ) (k : Counters) (base to : ℕ) (c r : Cursor) (mask : ℕ) : Type 0 where
   pub sought : Sought a k c to r
   pub in_bits : mask < 2 ^ 64
@@ -37,7 +38,8 @@ pub record Begun (first : ℕ) (w : Window) : Type 0 where
   pub marks : (n : ℕ) → In first n → is_marked w.mask first n ≡ leb n w.span.to
   pub next : w.next ≡ w.span.to + 1
 
--- what is left of it where a chain was asked, which gave the marks m: the reports marked by both; a window has none marked behind its last one
+-- what is left of it where a chain was asked, which gave the marks m: the reports marked by both; a window has none
+-- marked behind its last one
 pub record Narrowed (w : Window) (m : Marked) (r : Window) : Type 0 where
   pub base : r.span.base ≡ w.span.base
   pub in_bits : r.mask < 2 ^ 64

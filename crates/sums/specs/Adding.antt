@@ -27,7 +27,8 @@ add_from (suc fuel) part stop p =
 unfoldable pub added_to : List ℕ → ℕ → Sum ℕ → Sum ℕ
 added_to part stop p = add_from (length part) part stop p
 
--- from offset `at` on, behind the posting of that number, no number of the part is over `reports`: the last one is the largest
+-- from offset `at` on, behind the posting of that number, no number of the part is over `reports`: the last one is the
+-- largest
 pub record Bounded (part : List ℕ) (reports at number : ℕ) : Type 0 where
   pub last : (added_to part (length part) (sum_of at number)).number ≤ reports
 

@@ -1,6 +1,7 @@
--- Codes of single bytes: a value below 128 that 4 does not divide is a posting of one byte, and one that 4 divides is followed by the count's. So a
--- byte is a second one where 4 divides the byte before it and that byte starts a code. Where no three bytes on end are divided by 4, the two bytes
--- before it tell: 4 divides the nearer one and not the other.
+-- Codes of single bytes: a value below 128 that 4 does not divide is a posting of one byte, and one that 4 divides is
+-- followed by the count's. So a byte is a second one where 4 divides the byte before it and that byte starts a code.
+-- Where no three bytes on end are divided by 4, the two bytes before it tell: 4 divides the nearer one and not the
+-- other.
 use Rattle.std.specs.Prelude.{ℕ, zero, suc, ◌+◌, ◌/◌, ◌%◌, ◌<◌, ◌≡◌, List, Bool, false, cond, ◌&&◌, ◌||◌, ltb, length, get_or}
 use Rattle.sums.specs.declared.RowSum.{RowSum}
 use Rattle.sums.specs.Adding.{added_to}

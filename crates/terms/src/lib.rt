@@ -1,4 +1,5 @@
-// Terms: which bytes they may have, folding (document 01, "Frames"), and the hash by which they are found ("Finding a term").
+// Terms: which bytes they may have, folding (document 01, "Frames"), and the hash by which they are found ("Finding a
+// term").
 #![tactic(auto)]
 
 ghost use Rattle.std.specs.Prelude.{◌≡◌, true, ◌≤◌, length};
@@ -75,8 +76,8 @@ pub fn fnv1a(s: &[u8]) -> u32
     s.iter().fold(START, |hash, b| mix(hash, *b))
 }
 
-// A byte folded by the rule. A loop over it takes sixteen bytes at a time, one over the table only one. With a match on ranges in place of the test
-// a short term takes twice as long.
+// A byte folded by the rule. A loop over it takes sixteen bytes at a time, one over the table only one. With a match on
+// ranges in place of the test a short term takes twice as long.
 #[tactic(auto, using(crate::proofs::Laws::folding))]
 fn fold_byte(b: u8) -> u8
     ensures { result ≡ fold_byte b }
@@ -96,7 +97,8 @@ pub fn fold(s: &[u8], into: &mut [u8])
     basics::map_into(s, into, fold_byte);
 }
 
-// Judges folded bytes and takes their hash in one pass. A barred byte is folded to 0, so that the least byte tells whether there is one.
+// Judges folded bytes and takes their hash in one pass. A barred byte is folded to 0, so that the least byte tells
+// whether there is one.
 pub fn judge(name: &[u8]) -> Judged
     ensures { result ≡ judged_as name.now }
 {

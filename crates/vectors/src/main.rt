@@ -1,5 +1,6 @@
-// Answers the questions on standard input, a line each, by the proved functions: hashes, codings, decodings, foldings, frames, chains and whole lists
-// of calls. The stored questions and the expected answers are written by the Rust reference (rust/reference), which shares no code with the functions under test.
+// Answers the questions on standard input, a line each, by the proved functions: hashes, codings, decodings, foldings,
+// frames, chains and whole lists of calls. The stored questions and the expected answers are written by the Rust
+// reference (rust/reference), which shares no code with the functions under test.
 #![tactic(auto)]
 
 ghost use Rattle.std.specs.Prelude.{IfOk, IfSome, ◌≡◌, false, ◌+◌, ◌<◌, ◌≤◌, length};
@@ -176,8 +177,8 @@ fn frame(rt: &impl Print, payload: &[u8]) -> io::Result<()> {
     }
 }
 
-// One posting more in the chain whose head is block 0, in an arena of 24 blocks. Returns the blocks used; nothing is written where the head is
-// not sound, the posting does not follow the last one or there is no room.
+// One posting more in the chain whose head is block 0, in an arena of 24 blocks. Returns the blocks used; nothing is
+// written where the head is not sound, the posting does not follow the last one or there is no room.
 fn put_posting(arena: &mut [u8], used: u32, number: u32, count: u32) -> u32
     requires { 1536 ≤ length arena.old }
 {
