@@ -3,7 +3,7 @@
 use mathlib.Core.Path.{◌≡◌, refl, sym, ap, ◌∙◌}
 use Prim.Native.Nat.{ℕ, ◌+◌, ◌-◌, ◌≤◌, ◌<◌}
 use mathlib.Core.Bool.{Bool, true, false, cond}
-use mathlib.Core.List.{List, [], ◌∷◌, map}
+use mathlib.Core.List.{List, [], ◌∷◌}
 use native.Mathlib.Omega.{arith}
 use Rattle.std.specs.Prelude.{Ok}
 use lib.Dec.{leb}
@@ -31,15 +31,9 @@ use Rattle.layout.specs.Index.{Index, no_term, term_at, used_of, Linked, Image, 
 use Rattle.layout.specs.Claims.{Fields}
 use Rattle.layout.proofs.Laws.{fields, head_for_lem, reads_back, read_back}
 use Rattle.ledger.specs.Grown.{find, knows, GoodLine}
+pub use Rattle.ledger.specs.Grown.{entry_of, entries_of}
 use Rattle.ledger.proofs.Ask.{find-name, name_found, ask_known}
 use Rattle.ledger.proofs.Holds.{held}
-
--- what the table holds of a term
-abbrev pub entry_of : Held → Known
-entry_of t = record { name = t.name; head = head_no t }
-
-abbrev pub entries_of : Index → List Known
-entries_of ix = map entry_of ix.terms
 
 -- THE INVARIANT: arena, table and counters stand for the index after n reports
 pub record Rep (m : Memory) (ix : Index) (n : ℕ) : Type 0 where

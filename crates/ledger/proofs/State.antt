@@ -11,9 +11,9 @@ use Rattle.lookup.specs.Lookup.{table_of}
 use Rattle.layout.specs.Index.{Index, used_of}
 use Rattle.layout.proofs.Image.{image_same}
 use Rattle.ledger.specs.Ledger.{Report}
-use Rattle.ledger.specs.Grown.{grown}
-use Rattle.ledger.specs.State.{Same, SameState}
-use Rattle.ledger.proofs.Rep.{Rep, entries_of}
+use Rattle.ledger.specs.Grown.{grown, entries_of}
+use Rattle.ledger.specs.State.{Same, SameState, TableTold}
+use Rattle.ledger.proofs.Rep.{Rep}
 use Rattle.ledger.proofs.Calls.{carried}
 use Rattle.ledger.proofs.Agree.{Carried, carries}
 
@@ -36,3 +36,9 @@ same_ledgers {m = m} {m' = m'} {rs = rs} {rs' = rs'} c d e q =
 
 pub same_state : SameState
 same_state m m' rs rs' cs cs' h h' e q = same_ledgers (carried Carried carries m rs cs h) (carried Carried carries m' rs' cs' h') e q
+
+table_told_of : {b e : ℕ} {m : Memory} {rs : List Report} → Carried b e m rs → m.table ≡ table_of e (entries_of (grown rs))
+table_told_of {e = e} {rs = rs} c = c.stands.rep.tab.is ∙ ap (λ (k : ℕ). table_of k (entries_of (grown rs))) c.table_is
+
+pub table_told : TableTold
+table_told m rs cs h = table_told_of (carried Carried carries m rs cs h)

@@ -1,7 +1,9 @@
--- The ledger's own words for what a frame says and for filling lists say what the index's do. Nothing else that they differ in is compared elsewhere.
+-- The ledger's own words for what a frame says, for filling lists and for a refused answer say what the index's do. That
+-- the reports listed are the same is `common-listed` of `Listing`.
 -- Assumes nothing.
 use mathlib.Core.Path.{◌≡◌, refl, sym, ap, ◌∙◌}
 use Prim.Native.Nat.{ℕ, zero, suc, ◌+◌, ◌<◌, min}
+use mathlib.Core.Bool.{false}
 use mathlib.Core.List.{List, [], ◌∷◌, map}
 use native.Mathlib.Nat.{zero-min, min-zero, suc-min-suc}
 use native.Mathlib.Omega.{arith}
@@ -15,8 +17,8 @@ use Rattle.basics.proofs.Lists.{take-nil}
 use Rattle.frames.specs.Frames.{term_at, count_at, past_field, fields_up_to, fields, first_line, first_term, line_at, folded_at, report_lines, query_start, query_terms}
 use Rattle.blocks.specs.Prescribed.{Posting}
 use Rattle.query.specs.Listing.{numbers_of, counts_of, list_one, list_all}
-use Rattle.query.specs.Listing.{listed as given}
-use Rattle.ledger.specs.Ledger.{lines_in, lines_of, named_in, named_by, start_of, fill_two, fill_list}
+use Rattle.query.specs.Listing.{listed as given, refused}
+use Rattle.ledger.specs.Ledger.{lines_in, lines_of, named_in, named_by, start_of, told, fill_two, fill_list}
 
 -- ---- frames
 
@@ -113,3 +115,6 @@ list_same (p ∷ ps) (n ∷ ns) =
     sets-behind p.number ns 0 (numbers_of (length ns) ps) in
     rw (list_same ps ns, suc-min-suc (length ns) (length ps), ltb-suc (length ns) (length ps))
     (ap (λ (x : List ℕ). record { answer = record { refusal = 0; more = ltb (length ns) (length ps); filled = suc (min (length ns) (length ps)) }; numbers = x }) (sym q))
+
+pub told_same : (n : ℕ) → told n false 0 ≡ refused n
+told_same n = refl

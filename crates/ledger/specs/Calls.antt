@@ -100,7 +100,7 @@ pub record Counted (k : Counters) (rs : List Report) : Type 0 where
   pub reports : k.reports ≡ length rs
 
 -- an index of any make: what a call does in a state, the counters that the state shows, and how many bytes and entries
--- it was lent
+-- it was lent, by its own word; of ours these are the lengths of the memory
 pub record Make (S : Type 0) : Type 0 where
   pub step : S → Call → Step S
   pub counters : S → Counters

@@ -1,12 +1,14 @@
 -- The index that a ledger prescribes, as a function of its reports alone; and the reports for which that is done.
-use Rattle.std.specs.Prelude.{ℕ, suc, ◌≤◌, ◌≡◌, List, [], ◌∷◌, Bool, true, false, cond, ltb, length}
+use Rattle.std.specs.Prelude.{ℕ, suc, ◌≤◌, ◌≡◌, List, [], ◌∷◌, map, Bool, true, false, cond, ltb, length}
 use Rattle.basics.specs.Lists.{same}
 use Rattle.terms.specs.Terms.{max_term}
 use Rattle.frames.specs.Frames.{Line}
 use Rattle.blocks.specs.Fields.{max_word}
 use Rattle.blocks.specs.Prescribed.{Posting}
 use Rattle.layout.specs.Held.{Held}
+use Rattle.layout.specs.Held.{head_no}
 use Rattle.layout.specs.Index.{Index, empty, with_term, with_posting}
+use Rattle.lookup.specs.Lookup.{Known}
 use Rattle.ledger.specs.Ledger.{Report}
 
 -- ---- a term among the terms of an index
@@ -44,6 +46,13 @@ take_reports ix n (r ∷ rs) = take_reports (take_lines ix n r) (suc n) rs
 
 unfoldable pub grown : List Report → Index
 grown rs = take_reports empty 1 rs
+
+-- what the table holds of its terms, in their order: the name and the head's block
+abbrev pub entry_of : Held → Known
+entry_of t = record { name = t.name; head = head_no t }
+
+abbrev pub entries_of : Index → List Known
+entries_of ix = map entry_of ix.terms
 
 -- ---- reports that can be taken: lines have terms of at most 36 bytes and counts from 1, and no term comes twice
 

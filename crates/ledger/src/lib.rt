@@ -5,7 +5,7 @@ ghost use Rattle.ledger.specs.Calls.{Claim};
 ghost use Rattle.ledger.specs.Example.{Example};
 ghost use Rattle.ledger.specs.Refusing.{Refuses};
 ghost use Rattle.ledger.specs.Room.{NoRoom};
-ghost use Rattle.ledger.specs.State.{SameState};
+ghost use Rattle.ledger.specs.State.{SameState, TableTold};
 ghost use Rattle.ledger.specs.Strength.{Strength};
 
 // The claims, each as a contract, so that the gate fails without it.
@@ -41,7 +41,8 @@ pub fn no_room()
     ensures { NoRoom }
 {}
 
-// Equal ledgers have equal memories: counters, table and used blocks, byte for byte.
+// Equal ledgers have equal memories: counters, table and used blocks, byte for byte. The table is told by the terms.
 pub fn same_state()
-    ensures { SameState }
+    ensures same { SameState }
+    ensures table { TableTold }
 {}

@@ -16,12 +16,15 @@ pub record Within (g f : ℕ) : Type 0 where
   pub below_four : f < 4 → (1 ≤ (g - 1) * 4 + f) × ((g - 1) * 4 + f ≤ max_first)
   pub from_four : 4 ≤ f → (1 ≤ g * 4) × (g * 4 ≤ max_first) × (1 ≤ f - 3) × (f - 3 ≤ max_second)
 
+-- a coded posting with anything behind it is decoded, in all of its bytes and no other
+abbrev pub Decodes : (ℕ → ℕ → List ℕ) → (List ℕ → Option Decoded) → Type 0
+Decodes code decoded =
+    (g f : ℕ) → 1 ≤ g → g ≤ max_gap → 1 ≤ f → f ≤ max_count → (s : List ℕ)
+    → decoded (code g f ++ s) ≡ posting g f (length (code g f))
+
 -- coding and decoding undo each other
 pub record RoundTripsBy (code : ℕ → ℕ → List ℕ) (decoded : List ℕ → Option Decoded) : Type 0 where
-  -- a coded posting with anything behind it is decoded, in all of its bytes and no other
-  pub decode_code :
-      (g f : ℕ) → 1 ≤ g → g ≤ max_gap → 1 ≤ f → f ≤ max_count → (s : List ℕ)
-      → decoded (code g f ++ s) ≡ posting g f (length (code g f))
+  pub decode_code : Decodes code decoded
   -- what decoding took are exactly the bytes that coding gives
   pub code_decode : (s : List ℕ) (g f l : ℕ) → decoded s ≡ posting g f l → code g f ≡ take l s
   -- what is decoded is within the limits, and takes as many bytes as its code has and at most those there
@@ -35,4 +38,4 @@ RoundTrips = RoundTripsBy code decoded
 
 -- a code that is the same for all postings has no decoder
 abbrev pub NotConstant : Type 0
-NotConstant = (same : List ℕ) (decoded : List ℕ → Option Decoded) → RoundTripsBy (λ g f. same) decoded → ⊥
+NotConstant = (same : List ℕ) (decoded : List ℕ → Option Decoded) → Decodes (λ g f. same) decoded → ⊥

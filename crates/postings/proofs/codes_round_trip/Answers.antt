@@ -31,7 +31,7 @@ returns-clause-round_trips c =
 pub returns-clause-not_constant : goal.returns-clause-not_constant
 returns-clause-not_constant c =
     λ same decoded h.
-    let one : decoded (same ++ []) ≡ posting 1 1 (length same) = h.decode_code 1 1 (omega arith) (omega arith) (omega arith) (omega arith) [] in
-    let two : decoded (same ++ []) ≡ posting 2 1 (length same) = h.decode_code 2 1 (omega arith) (omega arith) (omega arith) (omega arith) [] in
+    let one : decoded (same ++ []) ≡ posting 1 1 (length same) = h 1 1 (omega arith) (omega arith) (omega arith) (omega arith) [] in
+    let two : decoded (same ++ []) ≡ posting 2 1 (length same) = h 2 1 (omega arith) (omega arith) (omega arith) (omega arith) [] in
     let z : ◌≡◌ {A = ℕ} 1 2 = (posting_same (sym one ∙ two)).0 in
     absurd (omega arith)
