@@ -5,3 +5,4 @@ pub mod Serving
 pub mod Turns
 pub mod LastFrames
 pub mod LedgerTold
+pub mod Example

@@ -45,3 +45,23 @@ ledger_output input = told_lines [] (frames input)
 -- for every input of bytes the program writes just that
 abbrev pub TellsLedger : Type 0
 TellsLedger = (input : List ℕ) → Bytes input → desk_output input ≡ ledger_output input
+
+-- ---- document 01's example: four frames, and what it prints for them
+
+abbrev pub example : List ℕ
+example =
+    1 ∷ 0 ∷ 16 ∷ 1 ∷ 2 ∷ 122 ∷ 110 ∷ 0 ∷ 0 ∷ 0 ∷ 3 ∷ 3 ∷ 80 ∷ 49 ∷ 55 ∷ 0 ∷ 0 ∷ 0 ∷ 1
+    ∷ 1 ∷ 0 ∷ 8 ∷ 1 ∷ 2 ∷ 122 ∷ 110 ∷ 0 ∷ 0 ∷ 0 ∷ 4
+    ∷ 1 ∷ 0 ∷ 8 ∷ 2 ∷ 0 ∷ 0 ∷ 0 ∷ 0 ∷ 2 ∷ 122 ∷ 110
+    ∷ 1 ∷ 0 ∷ 12 ∷ 3 ∷ 0 ∷ 0 ∷ 0 ∷ 0 ∷ 2 ∷ 122 ∷ 110 ∷ 3 ∷ 112 ∷ 49 ∷ 55 ∷ []
+
+-- the lines `R 1`, `R 2`, `Q 1:3 2:4` and `Q 1`
+abbrev pub printed : List ℕ
+printed =
+    82 ∷ 32 ∷ 49 ∷ 10
+    ∷ 82 ∷ 32 ∷ 50 ∷ 10
+    ∷ 81 ∷ 32 ∷ 49 ∷ 58 ∷ 51 ∷ 32 ∷ 50 ∷ 58 ∷ 52 ∷ 10
+    ∷ 81 ∷ 32 ∷ 49 ∷ 10 ∷ []
+
+abbrev pub ExamplePrinted : Type 0
+ExamplePrinted = ledger_output example ≡ printed

@@ -30,7 +30,7 @@ ghost use Rattle.desk.specs.Needs.{
   ready_length,
   waiting_for,
 };
-ghost use Rattle.desk.specs.Claims.{LastRefused, TellsLedger};
+ghost use Rattle.desk.specs.Claims.{LastRefused, TellsLedger, ExamplePrinted};
 
 use counters::Counters;
 use frames::{Kind, MAX_BODY};
@@ -446,10 +446,11 @@ fn print(rt: &(impl Print + Eprint), text: &[u8]) -> io::Result<()> {
 }
 
 // Pinned as contracts, so that the gate fails without them: the frame that ends the program is refused under 1 or 2,
-// and the whole output is the one that the plain ledger gives.
+// the whole output is the one that the plain ledger gives, and for document 01's example that is what it prints there.
 fn claims_hold()
     ensures last_refused { LastRefused }
     ensures tells_ledger { TellsLedger }
+    ensures example { ExamplePrinted }
 {}
 
 // Turn after turn: the lines are written and more is read, until the input ends or a frame stops the program. A proved
