@@ -6,7 +6,7 @@ use Prim.Native.Nat.{ℕ, zero, suc, ◌+◌, ◌-◌, ◌≤◌, ◌<◌}
 use native.Mathlib.Nat.{add-zero, zero-add, add-suc, suc-add, sub-zero, zero-sub, suc-sub-suc}
 use native.Mathlib.Omega.{arith}
 use lib.ListN.{length, get_or, take, drop, set, length-drop}
-use lib.Seq.{take-nil, take-set-le, drop-set-lt, take-set-lt, drop-set-add, drop-length, drop-drop, get_or-drop, sets, sets-eq, get_or-append_seam}
+use lib.Seq.{take-nil, take-set-le, drop-set-lt, take-set-lt, drop-set-add, drop-length, drop-drop, get_or-drop, sets, sets-eq, take_at, get_or-append_seam}
 
 module _ {A : Type 0} where
   -- ---- a part of a part
@@ -52,6 +52,14 @@ module _ {A : Type 0} where
   sets-whole l vs e =
       let z : 0 + length vs ≡ length l = omega arith in
       sets-eq vs l 0 (omega arith) ∙ rw (z, drop-length) (append-nil vs)
+
+  -- what was stored in a part is read there again
+  pub stored_at : (l : List A) (i : ℕ) (vs : List A) (n : ℕ) → length vs ≡ n → i + n ≤ length l → take n (drop i (sets l i vs)) ≡ vs
+  stored_at l i vs n e h =
+      let z : 0 + length vs ≤ length (drop i l) = rw length-drop (omega arith) in
+      ap (λ (k : ℕ). take n (drop i (sets l k vs))) (sym (add-zero i))
+      ∙ ap (take n) (drop-sets i l 0 vs ∙ sets-eq vs (drop i l) 0 z)
+      ∙ take_at vs _ n e
 
   -- ---- a list whose rest from the n-th element on is known
 

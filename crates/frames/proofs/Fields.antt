@@ -5,11 +5,12 @@ use mathlib.Core.Bool.{Bool, true, false}
 use mathlib.Core.List.{List, [], ◌∷◌}
 use Prim.Native.Nat.{ℕ, zero, suc, ◌+◌, ◌≤◌, ◌<◌}
 use native.Mathlib.Omega.{arith}
-use lib.ListN.{length}
+use lib.ListN.{length, get_or, drop, length-drop}
+use lib.Seq.{length-take-le}
 use borrow.Author.Tests.{lt-ltb, le-ltb}
 use Rattle.basics.specs.Lists.{any}
 use Rattle.basics.proofs.Cases.{by-lt}
-use Rattle.frames.specs.Frames.{count_bytes, past_field, Field, fields_up_to, fields, passes_end}
+use Rattle.frames.specs.Frames.{count_bytes, term_at, past_field, Field, fields_up_to, fields, passes_end}
 
 -- a line has at least five bytes
 pub past_five : (f : List ℕ) (at : ℕ) → at + 5 ≤ past_field count_bytes f at
@@ -73,3 +74,8 @@ module _ (tail : ℕ) (f : List ℕ) where
   pub field_term : (at : ℕ) → Field tail f at → Field 0 f at
   unfolding past_field
   field_term at h = record { starts = h.starts; ends = omega arith }
+
+-- and has as many bytes as the length byte says
+pub length_term : (f : List ℕ) (at : ℕ) → Field 0 f at → length (term_at f at) ≡ get_or f at 0
+unfolding term_at past_field
+length_term f at h = length-take-le (get_or f at 0) (drop (at + 1) f) (rw length-drop (omega (arith, h.ends)))

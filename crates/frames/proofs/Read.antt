@@ -1,38 +1,89 @@
--- Laws of a report's frame read once: its bytes folded, and the hashes of its lines.
+-- Laws of a report's frame read once: the folded terms of its lines, and their hashes.
 -- Assumes nothing.
-use mathlib.Core.Path.{◌≡◌, refl, sym, ap, ◌∙◌}
+use mathlib.Core.Path.{◌≡◌, refl, sym, ap, ap₂, ◌∙◌}
 use mathlib.Core.Bool.{Bool, true, false, not, ◌||◌, or-false, or_assoc}
-use mathlib.Core.List.{List, [], ◌∷◌, ◌++◌, append_assoc, append-nil}
+use mathlib.Core.List.{List, [], ◌∷◌, ◌++◌, map, append_assoc, append-nil}
 use Prim.Native.Nat.{ℕ, ◌+◌, ◌-◌, ◌*◌, ◌≤◌, ◌<◌}
 use native.Mathlib.Numerals.{add-one}
 use native.Mathlib.Omega.{arith}
 use lib.Dec.{eqb}
-use lib.ListN.{length, get_or, set, take, drop, length-set, length-take, length-map, take-append-drop}
-use lib.Seq.{take-take, take-suc-set, length-take-le}
+use lib.ListN.{length, get_or, set, take, drop, length-set, length-drop, length-map, take-append-drop}
+use lib.Seq.{sets, length-sets, take-take, take-suc-set, length-take-le}
 use Rattle.std.proofs.lemmas.List.{take_at}
-use Rattle.basics.proofs.Parts.{drop-take}
+use borrow.Rule.Slice.PartMut.{put_mid}
+use Rattle.basics.proofs.Parts.{drop-take, take-before, stored_at, sets-whole}
+use Rattle.basics.proofs.Stores.{put_mid_sets}
 use Rattle.basics.specs.Lists.{any}
 use Rattle.basics.proofs.Cases.{by-lt}
 use Rattle.terms.specs.Terms.{folded, fnv1a, is_term}
-use Rattle.terms.proofs.Laws.{length-folded, folded-take, folded-drop}
+use Rattle.terms.proofs.Laws.{length-folded}
 use Rattle.frames.specs.Frames.{max_body, count_bytes, first_line, term_at, count_at, past_field, Field, fields, lines, passes_end, bad_term, zero_count, folded_at}
-use Rattle.frames.specs.Read.{Folds, max_lines, hashes_of, Hashed}
-use Rattle.frames.proofs.Fields.{past_five, fields_end, fields_more, passes_end_lem, passes_here, passes_on}
+use Rattle.frames.specs.Read.{name_at, Folds, max_lines, hashes_of, Hashed, Read}
+use Rattle.frames.proofs.Fields.{length_term, past_five, fields_end, fields_more, passes_end_lem, passes_here, passes_on}
 
--- ---- the bytes folded
+-- ---- the folded terms
 
-module _ (f names : List ℕ) (e : Folds f names) where
-  pub folds_room : length f ≤ length names
-  folds_room = omega (arith, simp (length-take, length-folded) at (ap length e))
+-- a term is folded into the part that stands in its place
+module _ (f names : List ℕ) (at : ℕ) (h : Field 0 f at) (room : length f ≤ length names) where
+  abbrev part : List ℕ
+  part = take (get_or f at 0) (drop (at + 1) names)
 
-  -- a folded term stands where the term does
-  pub name_at : (at : ℕ) → Field 0 f at → take (get_or f at 0) (drop (at + 1) names) ≡ folded_at f at
-  unfolding term_at past_field
-  name_at at h =
-      let n = get_or f at 0 in
-      let m = length f - (at + 1) in
-      let z : drop (at + 1) (folded f) ≡ take m (drop (at + 1) names) = ap (drop (at + 1)) (sym e) ∙ drop-take (at + 1) (length f) names in
-      sym (folded-take n (drop (at + 1) f) ∙ ap (take n) (folded-drop (at + 1) f ∙ z) ∙ take-take n m (drop (at + 1) names) (omega (arith, h.ends)))
+  pub same_room : length (term_at f at) ≡ length part
+  unfolding past_field
+  same_room = length_term f at h ∙ sym (length-take-le (get_or f at 0) (drop (at + 1) names) (rw length-drop (omega (arith, h.ends))))
+
+  pub put_name : put_mid (at + 1) (get_or f at 0) names (sets part 0 (folded (term_at f at))) ≡ sets names (at + 1) (folded_at f at)
+  unfolding past_field
+  put_name =
+      let l = length-folded (term_at f at) in
+      ap (put_mid (at + 1) (get_or f at 0) names) (sets-whole part (folded (term_at f at)) (sym same_room ∙ sym l))
+      ∙ put_mid_sets (at + 1) (get_or f at 0) names (folded_at f at) (l ∙ length_term f at h) (omega (arith, h.ends))
+
+module _ (f names : List ℕ) (at : ℕ) where
+  -- at the frame's end no line is left
+  pub folds_end : length f ≤ at → Folds f names at
+  folds_end h = rw (fields_end count_bytes f at h)
+
+  module _ (h : at < length f) where
+    abbrev past : ℕ
+    past = past_field count_bytes f at
+
+    folds_more : name_at f names at ≡ folded_at f at → Folds f names past → Folds f names at
+    folds_more e r = rw (fields_more count_bytes f at h) (ap₂ (λ (x : List ℕ) (xs : List (List ℕ)). x ∷ xs) e r)
+
+    -- a line and those behind it
+    module _ (r : Folds f names at) where
+      here_on : name_at f names at ∷ map (name_at f names) (fields count_bytes f past) ≡ folded_at f at ∷ map (folded_at f) (fields count_bytes f past)
+      here_on = rw (fields_more count_bytes f at h) at r
+
+      pub folds_here : name_at f names at ≡ folded_at f at
+      folds_here = cc here_on
+
+      pub folds_on : Folds f names past
+      folds_on = cc here_on
+
+-- the terms of all lines before an offset are folded: where the bytes before it stay as they are and the lines from there on are
+-- folded too, all lines are
+abbrev pub FoldsTo : List ℕ → List ℕ → ℕ → Type 0
+FoldsTo f names at = (later : List ℕ) → take at later ≡ take at names → Folds f later at → Folds f later first_line
+
+-- one line more
+folds_to_more : (f names : List ℕ) (at : ℕ) → at < length f → past_field count_bytes f at ≤ length f → length f ≤ length names
+    → FoldsTo f names at → FoldsTo f (sets names (at + 1) (folded_at f at)) (past_field count_bytes f at)
+unfolding past_field name_at
+folds_to_more f names at h p room t = λ later e rest.
+    let w = folded_at f at in
+    let n = get_or f at 0 in
+    let past = past_field count_bytes f at in
+    let stored = sets names (at + 1) w in
+    let l : length w ≡ n = length-folded (term_at f at) ∙ length_term f at (record { starts = h; ends = omega (arith, p) }) in
+    -- what is behind the line's length byte
+    let cut : (s : List ℕ) → take n (drop (at + 1) s) ≡ take n (drop (at + 1) (take past s)) =
+    λ s. sym (ap (take n) (drop-take (at + 1) past s) ∙ take-take n (past - (at + 1)) (drop (at + 1) s) (omega arith)) in
+    let front : (s : List ℕ) → take at (take past s) ≡ take at s = λ s. take-take at past s (omega arith) in
+    t later
+    (sym (front later) ∙ ap (take at) e ∙ front stored ∙ take-before at names (at + 1) w (omega arith))
+    (folds_more f later at h (cut later ∙ ap (λ (s : List ℕ). take n (drop (at + 1) s)) e ∙ sym (cut stored) ∙ stored_at names (at + 1) w n l (omega (arith, p))) rest)
 
 -- ---- the hashes
 
@@ -71,7 +122,9 @@ all-hashes f n p e = rw p.is (take_at _ _ n (length-map (lines f) (λ at. fnv1a 
 -- ---- from line to line
 
 -- what is known at an offset where a line may start, with n lines read, a bad term among them or not, a count of 0 or not
-pub record Reading (f hashes : List ℕ) (at n : ℕ) (bad zero : Bool) : Type 0 where
+pub record Reading (f names hashes : List ℕ) (at n : ℕ) (bad zero : Bool) : Type 0 where
+  pub folds : FoldsTo f names at
+  pub within : length f ≤ length names
   pub uncut : passes_end count_bytes f first_line ≡ passes_end count_bytes f at
   pub bads : bad_term f (lines f) ≡ bad || bad_term f (fields count_bytes f at)
   pub zeros : zero_count f (lines f) ≡ zero || zero_count f (fields count_bytes f at)
@@ -80,8 +133,8 @@ pub record Reading (f hashes : List ℕ) (at n : ℕ) (bad zero : Bool) : Type 0
   pub few : n ≤ max_lines
   pub enough : max_lines ≤ length hashes
 
-pub reading_none : (f hashes : List ℕ) → max_lines ≤ length hashes → Reading f hashes first_line 0 false false
-reading_none f hashes h = record { uncut = refl; bads = refl; zeros = refl; hashed = refl; room = omega arith; few = omega arith; enough = h }
+pub reading_none : (f names hashes : List ℕ) → length f ≤ length names → max_lines ≤ length hashes → Reading f names hashes first_line 0 false false
+reading_none f names hashes l h = record { folds = λ later e rest. rest; within = l; uncut = refl; bads = refl; zeros = refl; hashed = refl; room = omega arith; few = omega arith; enough = h }
 
 -- a line's term and count, and those behind it
 module _ (f : List ℕ) (at : ℕ) where
@@ -93,7 +146,7 @@ module _ (f : List ℕ) (at : ℕ) where
   unfolding zero_count any
   zero_step h = rw (fields_more count_bytes f at h)
 
-module _ {f hashes : List ℕ} {at n : ℕ} {bad zero : Bool} (r : Reading f hashes at n bad zero) where
+module _ {f names hashes : List ℕ} {at n : ℕ} {bad zero : Bool} (r : Reading f names hashes at n bad zero) where
   -- at the frame's end all is known
   module _ (h : length f ≤ at) where
     pub reading_whole : passes_end count_bytes f first_line ≡ false
@@ -110,13 +163,16 @@ module _ {f hashes : List ℕ} {at n : ℕ} {bad zero : Bool} (r : Reading f has
     all_hashes : hashes_of f (lines f) ≡ take n hashes
     all_hashes = r.hashed ∙ ap (λ (hs : List ℕ). take n hashes ++ hs) (hashes_end f at h) ∙ append-nil (take n hashes)
 
-    pub reading_hashed : Hashed f first_line 0 hashes
+    reading_hashed : Hashed f first_line 0 hashes
     reading_hashed = record { rest = drop n hashes; is = sym (take-append-drop n hashes) ∙ ap (λ (hs : List ℕ). hs ++ drop n hashes) (sym all_hashes) }
 
     pub reading_count : n ≡ length (lines f)
     unfolding hashes_of
     reading_count =
         sym (length-take-le n hashes (omega (arith, r.few, r.enough))) ∙ sym (ap length all_hashes) ∙ length-map (lines f) (λ at. fnv1a (folded_at f at))
+
+    pub reading_read : Read f names hashes
+    reading_read = record { room = r.within; folds = r.folds names refl (folds_end f names at h); hashed = reading_hashed; few = omega (arith, r.few, reading_count) }
 
   module _ (h : at < length f) where
     -- a line that passes the end decides
@@ -129,11 +185,13 @@ module _ {f hashes : List ℕ} {at n : ℕ} {bad zero : Bool} (r : Reading f has
 
     -- on to the next line
     pub reading_more : (x to : ℕ) (bad' zero' : Bool) → length f ≤ max_body + 3 → past_field count_bytes f at ≤ length f → x ≡ fnv1a (folded_at f at) → to ≡ past_field count_bytes f at
-        → bad || not (is_term (term_at f at)) ≡ bad' → zero || eqb (count_at f at) 0 ≡ zero' → Reading f (set hashes n x) to (n + 1) bad' zero'
+        → bad || not (is_term (term_at f at)) ≡ bad' → zero || eqb (count_at f at) 0 ≡ zero' → Reading f (sets names (at + 1) (folded_at f at)) (set hashes n x) to (n + 1) bad' zero'
     reading_more x to bad' zero' s p e q b z =
         let past = past_field count_bytes f at in
         let t : take (n + 1) (set hashes n x) ≡ take n hashes ++ (x ∷ []) = rw add-one (take-suc-set hashes n x (reading_room s)) in
         rw q (record {
+          folds = folds_to_more f names at h p r.within r.folds;
+          within = rw length-sets r.within;
           uncut = r.uncut ∙ passes_on count_bytes f at h p;
           bads = r.bads ∙ ap (λ (y : Bool). bad || y) (bad_step f at h) ∙ sym (or_assoc bad (not (is_term (term_at f at))) (bad_term f (fields count_bytes f past))) ∙ rw b;
           zeros = r.zeros ∙ ap (λ (y : Bool). zero || y) (zero_step f at h) ∙ sym (or_assoc zero (eqb (count_at f at) 0) (zero_count f (fields count_bytes f past))) ∙ rw z;

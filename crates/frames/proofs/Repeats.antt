@@ -12,20 +12,11 @@ use Rattle.basics.specs.Lists.{any, same}
 use Rattle.basics.proofs.Cases.{by-eq}
 use Rattle.basics.proofs.Lists.{ne_same}
 use Rattle.terms.specs.Terms.{fnv1a}
-use Rattle.frames.specs.Frames.{
-  count_bytes,
-  first_line,
-  past_field,
-  Field,
-  fields,
-  lines,
-  passes_end,
-  repeats_after,
-  folded_at,
-  repeated_term,
-}
+use Rattle.frames.specs.Frames.{count_bytes, first_line, past_field, fields, lines, passes_end, repeats_after, folded_at, repeated_term}
+use Rattle.frames.specs.Read.{Folds, LineAt}
 use Rattle.frames.specs.Repeats.{slot_of, chain_up_to, chain, slots, Chained}
 use Rattle.frames.proofs.Fields.{past_five, fields_end, fields_more, field_here, whole-on}
+use Rattle.frames.proofs.Read.{folds_here, folds_on}
 
 -- ---- following a chain
 
@@ -121,26 +112,29 @@ bucket_small t = omega arith
 
 -- what is known at an offset where a line may start: `seen` are the folded terms of the lines before it, latest first,
 -- and a term is among them exactly when it is in its bucket's chain
-pub record Passed (f last earlier : List ℕ) (at : ℕ) : Type 0 where
+pub record Passed (f names last earlier : List ℕ) (at : ℕ) : Type 0 where
   pub last_length : length last ≡ buckets
   pub earlier_length : length earlier ≡ slots
   pub seen : List (List ℕ)
   pub left : repeated_term f (lines f) ≡ repeats_after seen (map (folded_at f) (fields count_bytes f at))
   pub whole : passes_end count_bytes f at ≡ false
-  pub chained : (b : ℕ) → Chained f earlier (get_or last b 0)
+  pub folds : Folds f names at
+  pub chained : (b : ℕ) → Chained f names earlier (get_or last b 0)
   pub behind : (b : ℕ) → 0 < get_or last b 0 → get_or last b 0 + 5 ≤ at
   pub some : 0 < at
   pub held : (t : List ℕ) → has_term f t (chain earlier (get_or last (bucket t) 0)) ≡ any (same t) seen
 
 -- at the first line all chains are empty
-pub passed_none : (f : List ℕ) (n m : ℕ) → n ≡ buckets → m ≡ slots → length f ≤ 5 * slots → passes_end count_bytes f first_line ≡ false → Passed f (replicate n 0) (replicate m 0) first_line
+pub passed_none : (f names : List ℕ) (n m : ℕ) → n ≡ buckets → m ≡ slots → length f ≤ 5 * slots → passes_end count_bytes f first_line ≡ false → Folds f names first_line
+    → Passed f names (replicate n 0) (replicate m 0) first_line
 unfolding repeated_term any
-passed_none f n m en em h w = record {
+passed_none f names n m en em h w fs = record {
   last_length = rw length-replicate en;
   earlier_length = rw length-replicate em;
   seen = [];
   left = refl;
   whole = w;
+  folds = fs;
   chained = λ b. record {
     room = h;
     falls = λ slot. rw (nulls m slot) (omega arith);
@@ -152,7 +146,7 @@ passed_none f n m en em h w = record {
   held = λ t. rw (nulls n (bucket t)) (has_none f t (replicate m 0));
 }
 
-module _ {f last earlier : List ℕ} {at : ℕ} (p : Passed f last earlier at) where
+module _ {f names last earlier : List ℕ} {at : ℕ} (p : Passed f names last earlier at) where
   -- at the frame's end nothing was repeated
   pub passed_end : length f ≤ at → repeated_term f (lines f) ≡ false
   unfolding repeats_after
@@ -160,8 +154,8 @@ module _ {f last earlier : List ℕ} {at : ℕ} (p : Passed f last earlier at) w
 
   module _ (h : at < length f) where
     -- before the end, a whole line stands here
-    pub passed-line : Field count_bytes f at
-    passed-line = field_here count_bytes f at p.whole h
+    pub passed-line : LineAt f names at
+    passed-line = record { whole = field_here count_bytes f at p.whole h; folds = folds_here f names at h p.folds }
 
     -- its folded term, the chain where that is looked for, and the arrays once the line is put before that chain
     abbrev term : List ℕ
@@ -189,11 +183,11 @@ module _ {f last earlier : List ℕ} {at : ℕ} (p : Passed f last earlier at) w
         set-each (λ slot x. x ≤ 5 * slot - 1) earlier (slot_of at) latest
         (by-eq latest 0 (λ e. omega arith) (λ n. omega (arith, p.behind (bucket term) (omega arith)))) (p.chained 0).falls
 
-    chained-from : (x : ℕ) → (0 < x → Field count_bytes f x) → Chained f earlier' x
+    chained-from : (x : ℕ) → (0 < x → LineAt f names x) → Chained f names earlier' x
     chained-from x l = record {
       room = (p.chained 0).room;
       falls = falls';
-      whole = set-each (λ slot x. 0 < x → Field count_bytes f x) earlier (slot_of at) latest (p.chained (bucket term)).start (p.chained 0).whole;
+      whole = set-each (λ slot x. 0 < x → LineAt f names x) earlier (slot_of at) latest (p.chained (bucket term)).start (p.chained 0).whole;
       start = l;
     }
 
@@ -216,14 +210,15 @@ module _ {f last earlier : List ℕ} {at : ℕ} (p : Passed f last earlier at) w
         rw (get_or-set_other last (bucket term) (bucket t) at 0 n, chain_as_lem (bucket t), p.held t, ne_same t term (λ e. n (ap bucket e)))
 
     -- on to the next line
-    pub passed_more : has_term f term (chain earlier latest) ≡ false → Passed f last' earlier' (past_field count_bytes f at)
+    pub passed_more : has_term f term (chain earlier latest) ≡ false → Passed f names last' earlier' (past_field count_bytes f at)
     passed_more e = record {
       last_length = rw length-set p.last_length;
       earlier_length = rw length-set p.earlier_length;
       seen = term ∷ p.seen;
       left = repeats_here ∙ rw e;
       whole = whole-on count_bytes f at p.whole h;
-      chained = set-each (λ b x. Chained f earlier' x) last (bucket term) at (chained-from at (λ l. passed-line)) (λ b. chained-from (get_or last b 0) (p.chained b).start);
+      folds = folds_on f names at h p.folds;
+      chained = set-each (λ b x. Chained f names earlier' x) last (bucket term) at (chained-from at (λ l. passed-line)) (λ b. chained-from (get_or last b 0) (p.chained b).start);
       behind = set-each (λ b x. 0 < x → x + 5 ≤ past_field count_bytes f at) last (bucket term) at (λ l. past_five f at) (λ b l. omega (arith, p.behind b l, past_five f at));
       some = omega (arith, past_five f at);
       held = λ t. by-eq (bucket t) (bucket term) (held_own t) (held_other t);

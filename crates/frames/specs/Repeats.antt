@@ -1,6 +1,6 @@
 -- How repeated lines are found: lines whose folded terms share a bucket are chained, each to the one before it.
 use Rattle.std.specs.Prelude.{ℕ, zero, suc, ◌-◌, ◌*◌, ◌/◌, ◌≤◌, ◌<◌, List, [], ◌∷◌, cond, eqb, length, get_or}
-use Rattle.frames.specs.Frames.{count_bytes, Field}
+use Rattle.frames.specs.Read.{LineAt}
 
 -- a line has at least five bytes, so that no two lines have one slot
 abbrev pub slot_of : ℕ → ℕ
@@ -22,8 +22,8 @@ slots = 820
 
 -- what following a chain needs: every offset of the frame has its slot, a slot leads to an offset before all that have
 -- it, and a whole line stands at each but 0
-pub record Chained (f : List ℕ) (earlier : List ℕ) (last : ℕ) : Type 0 where
+pub record Chained (f names : List ℕ) (earlier : List ℕ) (last : ℕ) : Type 0 where
   pub room : length f ≤ 5 * slots
   pub falls : (slot : ℕ) → get_or earlier slot 0 ≤ 5 * slot - 1
-  pub whole : (slot : ℕ) → 0 < get_or earlier slot 0 → Field count_bytes f (get_or earlier slot 0)
-  pub start : 0 < last → Field count_bytes f last
+  pub whole : (slot : ℕ) → 0 < get_or earlier slot 0 → LineAt f names (get_or earlier slot 0)
+  pub start : 0 < last → LineAt f names last

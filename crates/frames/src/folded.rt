@@ -1,11 +1,11 @@
-// A frame whose bytes are folded.
+// A frame with the folded terms of its lines.
 
-ghost use Rattle.frames.specs.Read.{Folds};
+ghost use Rattle.std.specs.Prelude.{◌≤◌, length};
 
-// A frame, and its bytes folded at the front of `names`, so that a folded term stands where the term does.
+// A frame, and room for its bytes: where a line's term stands in the frame, the folded term stands in `names`.
 #[derive(Clone, Copy)]
 pub struct FoldedFrame<'a> {
     pub frame: &'a [u8],
     pub names: &'a [u8],
-    ghost folded: { Folds frame.now names.now },
+    ghost room: { length frame.now ≤ length names.now },
 }

@@ -29,7 +29,9 @@ ghost use Rattle.std.specs.Iterator.{at_most};
 ghost use Rattle.frames.specs.Walk.{Goes, from_first};
 ghost use Rattle.frames.specs.Answers.{byte_of, IsKind, IsQuery};
 ghost use Rattle.frames.specs.Repeats.{chain, Chained};
-ghost use Rattle.frames.specs.Read.{max_lines, hashes_of, Hashed, Read};
+ghost use Rattle.frames.specs.Read.{Folds, LineAt, max_lines, hashes_of, Read};
+ghost use Rattle.std.proofs.lemmas.List.Edits.{sets};
+ghost use Rattle.terms.specs.Terms.{judged_as};
 ghost use Rattle.refusals.specs.Numbers.{refused_under};
 
 mod folded;
@@ -39,6 +41,7 @@ pub use folded::FoldedFrame;
 use refusals::Refusal;
 pub use report::{Line, Lines, LinesLeft};
 use std::ops::Range;
+use terms::{FoldingTable, Judged};
 
 // The longest body of a frame.
 pub const MAX_BODY: usize = 4096;
@@ -108,10 +111,20 @@ impl Cursor {
         &frame[self.term_range(frame)]
     }
 
-    // The same folded.
-    #[tactic(auto, using(crate::proofs::Read::folds_room, crate::proofs::Read::name_at), unfolding(crate::specs::Frames::past_field))]
+    // Folds the term of the line here into its place in `names`, and judges it.
+    #[tactic(auto, unfolding(crate::specs::Frames::past_field))]
+    fn fold(self, frame: &[u8], table: &FoldingTable, names: &mut [u8]) -> Judged
+        requires { Field 0 frame.now self.at × (length frame.now ≤ length names.old) }
+        ensures folded { names.new ≡ sets names.old (self.at + 1) (folded_at frame.now self.at) }
+        ensures judged { result ≡ judged_as (term_at frame.now self.at) }
+    {
+        terms::fold(self.term(frame), table, &mut names[self.term_range(frame)])
+    }
+
+    // The folded term of the line here.
+    #[tactic(auto, unfolding(crate::specs::Frames::past_field))]
     pub fn name<'a>(self, folded: FoldedFrame<'a>) -> &'a [u8]
-        requires { Field 0 folded.frame.now self.at }
+        requires { LineAt folded.frame.now folded.names.now self.at }
         ensures { result.now ≡ folded_at folded.entry.frame.now self.at }
     {
         &folded.names[self.term_range(folded.frame)]
@@ -234,14 +247,16 @@ fn bad_term(mut left: Cursors) -> bool
     left.any(|c| !terms::is_term(c.term(frame)))
 }
 
-// Refusals 4 to 6 of a report in one pass, or how many lines there are. Stores the hash of each line's folded term.
-fn read_lines(folded: FoldedFrame, hashes: &mut [u32]) -> Result<usize, Refusal>
-    requires { (length folded.frame.now ≤ max_body + 3) × (max_lines ≤ length hashes.old) }
-    ensures refused { refused_under result ≡ first_of (field_rows folded.entry.frame.now) }
-    ensures count { IfOk result (λ n. (n ≡ length (lines folded.entry.frame.now)) × (n ≤ max_lines)) }
-    ensures hashed { OnOk result (Hashed folded.entry.frame.now first_line 0 hashes.new) }
+// Refusals 4 to 6 of a report in one pass, or how many lines there are. Folds each line's term into its place in
+// `names`, and stores the hash of the folded term.
+fn read_lines(frame: &[u8], names: &mut [u8], hashes: &mut [u32]) -> Result<usize, Refusal>
+    requires short { length frame.now ≤ max_body + 3 }
+    requires room { (max_body + 3 ≤ length names.old) × (max_lines ≤ length hashes.old) }
+    ensures refused { refused_under result ≡ first_of (field_rows frame.now) }
+    ensures count { IfOk result (λ n. n ≡ length (lines frame.now)) }
+    ensures read { OnOk result (Read frame.now names.new hashes.new) }
 {
-    let frame = folded.frame;
+    let table = FoldingTable::new();
     let mut n = 0;
     let mut bad = false;
     let mut zero = false;
@@ -249,7 +264,7 @@ fn read_lines(folded: FoldedFrame, hashes: &mut [u32]) -> Result<usize, Refusal>
         if frame.len() < c.past(frame, 4).at {
             return Err(Refusal::WrongFields);
         }
-        let line = terms::judge(c.name(folded));
+        let line = c.fold(frame, &table, names);
         hashes[n] = line.hash;
         n += 1;
         bad |= !line.term;
@@ -266,7 +281,7 @@ fn read_lines(folded: FoldedFrame, hashes: &mut [u32]) -> Result<usize, Refusal>
 
 // Whether a line of the chain from `last` on has the folded term of the line at c.
 fn in_chain(folded: FoldedFrame, earlier: &[u16; MAX_LINES], last: u16, c: Cursor) -> bool
-    requires { Chained folded.frame.now earlier.now last × Field count_bytes folded.frame.now c.at }
+    requires { Chained folded.frame.now folded.names.now earlier.now last × LineAt folded.frame.now folded.names.now c.at }
     ensures { result
         ≡ any (λ at. same (folded_at folded.entry.frame.now c.at) (folded_at folded.entry.frame.now at))
         (chain earlier.now last) }
@@ -285,8 +300,10 @@ fn in_chain(folded: FoldedFrame, earlier: &[u16; MAX_LINES], last: u16, c: Curso
 // Refusal 7: whether two lines have one folded term. Lines are chained by the last byte of their hash, so that each is
 // compared with few others.
 fn repeated_term(folded: FoldedFrame, hashes: &[u32]) -> bool
-    requires { (length folded.frame.now ≤ max_body + 3) × (passes_end count_bytes folded.frame.now first_line ≡ false)
-        × (hashes.now ≡ hashes_of folded.frame.now (lines folded.frame.now)) }
+    requires short { length folded.frame.now ≤ max_body + 3 }
+    requires whole { passes_end count_bytes folded.frame.now first_line ≡ false }
+    requires folds { Folds folded.frame.now folded.names.now first_line }
+    requires hashed { hashes.now ≡ hashes_of folded.frame.now (lines folded.frame.now) }
     ensures { result ≡ repeated_term folded.entry.frame.now (lines folded.entry.frame.now) }
 {
     let mut last = [0u16; 256];
@@ -305,7 +322,7 @@ fn repeated_term(folded: FoldedFrame, hashes: &[u32]) -> bool
 
 // ---- the checks
 
-// A report's frame, or how many lines it has. Leaves its folded bytes and the hashes of its lines to the caller, who
+// A report's frame, or how many lines it has. Leaves the folded terms of its lines and their hashes to the caller, who
 // looks the lines up by them.
 #[tactic(auto, unfolding(crate::specs::Refusals::first_of, crate::specs::Frames::head_rows, crate::specs::Frames::field_rows, crate::specs::Frames::report_rows, crate::specs::Frames::report_refusal))]
 pub fn read_report(frame: &[u8], names: &mut [u8], hashes: &mut [u32]) -> Result<usize, Refusal>
@@ -315,9 +332,8 @@ pub fn read_report(frame: &[u8], names: &mut [u8], hashes: &mut [u32]) -> Result
     ensures read { OnOk result (Read frame.now names.new hashes.new) }
 {
     check_head(frame, Kind::Report)?;
-    terms::fold(frame, names);
+    let count = read_lines(frame, names, hashes)?;
     let folded = FoldedFrame { frame, names };
-    let count = read_lines(folded, hashes)?;
     if repeated_term(folded, &hashes[..count]) {
         return Err(Refusal::RepeatedTerm);
     }

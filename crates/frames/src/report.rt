@@ -19,14 +19,15 @@ use crate::{Cursor, FoldedFrame};
 use refusals::Refusal;
 use terms::Name;
 
-// A sound report as reading leaves it: its frame, the frame's bytes folded, and the hash of each line's folded term.
+// A sound report as reading leaves it: its frame, the folded terms of its lines, and the hash of each.
 #[derive(Clone, Copy)]
 pub struct Lines<'a> {
     pub frame: &'a [u8],
     pub names: &'a [u8],
     pub hashes: &'a [u32],
     ghost sound: { report_refusal frame.now ≡ 0 },
-    ghost folded: { Folds frame.now names.now },
+    ghost room: { length frame.now ≤ length names.now },
+    ghost folded: { Folds frame.now names.now first_line },
     ghost hashed: { hashes.now ≡ hashes_of frame.now (lines frame.now) },
     ghost few: { length hashes.now ≤ max_lines },
 }
@@ -45,7 +46,8 @@ pub struct LinesLeft<'a> {
     names: &'a [u8],
     hashes: &'a [u32],
     at: usize,
-    ghost folded: { Folds frame.now names.now },
+    ghost room: { length frame.now ≤ length names.now },
+    ghost folded: { Folds frame.now names.now at },
     ghost whole: { passes_end count_bytes frame.now at ≡ false },
     ghost good: { bad_term frame.now (fields count_bytes frame.now at) ≡ false },
     ghost hashed: { hashes.now ≡ hashes_of frame.now (fields count_bytes frame.now at) },

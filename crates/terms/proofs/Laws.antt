@@ -1,21 +1,23 @@
 -- What the crates above use of terms, their folding and their hash.
 -- Assumes nothing.
-use mathlib.Core.Path.{◌≡◌, refl, ap, ◌∙◌}
-use mathlib.Core.Bool.{not, cond, true, false, ◌&&◌}
-use mathlib.Core.List.{List, [], ◌∷◌}
+use mathlib.Core.Path.{◌≡◌, refl, sym, ap, ◌∙◌}
+use mathlib.Core.Bool.{not, true, false, ◌&&◌}
+use mathlib.Core.List.{List, [], ◌∷◌, ◌++◌, map}
 use Prim.Native.Nat.{ℕ, ◌+◌, ◌^◌, ◌≤◌, ◌<◌}
 use native.Mathlib.Nat.{zero-add}
 use native.Mathlib.Omega.{arith}
 use borrow.Author.Tests.{leb-true, le-leb}
 use lib.Dec.{eqb, leb, ltb}
-use lib.ListN.{length, get_or, take, drop, length-map, get_or-map}
+use lib.ListN.{length, get_or, set, take, length-map, length-take, get_or-map}
 use lib.Seq.{sets, sets-eq, take_at}
 use Rattle.basics.specs.Lists.{all}
-use Rattle.basics.proofs.Lists.{and_left, and_right, all-at, map-take, map-drop}
+use Rattle.basics.proofs.Stores.{sets_behind}
+use Rattle.basics.proofs.Lists.{and_left, and_right, all-at}
 use Rattle.std.specs.List.{fold}
-use Rattle.std.specs.Char.{is_ascii_graphic, to_ascii_lowercase}
 use Rattle.std.proofs.lemmas.Bool.Decides.{nat_tests}
-use Rattle.terms.specs.Terms.{max_term, allowed, capital, fold_byte, folded, is_term, mixed, fnv1a, is_name, judged_as}
+use Rattle.std.proofs.lemmas.List.{take_more, map-append}
+use Rattle.std.proofs.lemmas.List.Sums.{fold_push}
+use Rattle.terms.specs.Terms.{max_term, allowed, capital, fold_byte, folded, is_term, mixed, fnv1a, judged_as}
 
 -- ---- a byte
 
@@ -24,11 +26,7 @@ pub allowed_range : (b : ℕ) → allowed b ≡ true → (0x21 ≤ b) × (b ≤ 
 unfolding allowed
 allowed_range b e = grind (arith, nat_tests)
 
--- a byte folds to 0 exactly when it is barred: barred bytes do, allowed ones do not
-pub barred_fold : (b : ℕ) → allowed b ≡ false → fold_byte b ≡ 0
-unfolding fold_byte
-barred_fold b e = rw e
-
+-- an allowed byte does not fold to 0
 pub allowed-fold_pos : (b : ℕ) → allowed b ≡ true → 0 < fold_byte b
 unfolding fold_byte allowed capital
 allowed-fold_pos b e = grind (arith, nat_tests)
@@ -42,23 +40,10 @@ pub fold_byte_lem : (b : ℕ) → fold_byte b < 256
 unfolding fold_byte allowed capital
 fold_byte_lem b = grind (arith, nat_tests)
 
--- folding leaves a byte allowed or barred, as it was
-pub allowed-fold : (b : ℕ) → allowed (fold_byte b) ≡ allowed b
-unfolding fold_byte allowed capital
-allowed-fold b = grind (arith, nat_tests)
-
 -- folding twice is folding once
 pub fold-fold : (b : ℕ) → fold_byte (fold_byte b) ≡ fold_byte b
 unfolding fold_byte allowed capital
 fold-fold b = grind (arith, nat_tests)
-
--- the rule in the words of the library: the allowed bytes are the graphic ones, and capitals become small letters
-pub fold_graphic : (b : ℕ) → fold_byte b ≡ cond (is_ascii_graphic b) (to_ascii_lowercase b) 0
-unfolding fold_byte allowed capital
-fold_graphic b = grind (arith, nat_tests)
-
--- what folding a byte takes
-pub ruleset folding = (nat_tests, fold_graphic)
 
 -- ---- a list of bytes
 
@@ -67,15 +52,7 @@ pub length-folded : (s : List ℕ) → length (folded s) ≡ length s
 unfolding folded
 length-folded s = length-map s fold_byte
 
--- a front, a rest, and one byte
-pub folded-take : (i : ℕ) (s : List ℕ) → folded (take i s) ≡ take i (folded s)
-unfolding folded
-folded-take i s = map-take fold_byte i s
-
-pub folded-drop : (i : ℕ) (s : List ℕ) → folded (drop i s) ≡ drop i (folded s)
-unfolding folded
-folded-drop i s = map-drop fold_byte i s
-
+-- one byte
 pub folded-at : (s : List ℕ) (i : ℕ) → get_or (folded s) i 0 ≡ fold_byte (get_or s i 0)
 unfolding folded fold_byte allowed
 folded-at s i = get_or-map fold_byte s i 0
@@ -91,12 +68,6 @@ pub folded-folded : (s : List ℕ) → folded (folded s) ≡ folded s
 unfolding folded
 folded-folded [] = refl
 folded-folded (b ∷ s) = rw (fold-fold b, folded-folded s)
-
--- folding leaves all bytes allowed, or some barred
-pub all-folded : (s : List ℕ) → all allowed (folded s) ≡ all allowed s
-unfolding folded all
-all-folded [] = refl
-all-folded (b ∷ s) = rw (allowed-fold b, all-folded s)
 
 -- ---- a term
 
@@ -127,31 +98,9 @@ pub is_term_long : (s : List ℕ) → max_term < length s → is_term s ≡ fals
 unfolding is_term
 is_term_long s h = grind (arith, nat_tests)
 
--- a list is a term exactly when its folded bytes are
-pub is_term-folded : (s : List ℕ) → is_term (folded s) ≡ is_term s
-unfolding is_term
-is_term-folded s = rw (length-folded s, all-folded s)
-
 -- the folded bytes of a term are from 1 to 255
 pub term_byte : (s : List ℕ) → is_term s ≡ true → (i : ℕ) → i < length s → (0 < get_or (folded s) i 0) × (get_or (folded s) i 0 < 256)
 term_byte s e i h = rw (folded-at s i) (allowed-fold_pos (get_or s i 0) (term-allowed-at s e i h), fold_byte_lem (get_or s i 0))
-
--- ---- folded bytes judged
-
--- a byte is allowed exactly when it does not fold to 0
-allowed_pos : (b : ℕ) → ltb 0 (fold_byte b) ≡ allowed b
-unfolding fold_byte allowed capital
-allowed_pos b = grind (arith, nat_tests)
-
-all_pos : (s : List ℕ) → all (ltb 0) (folded s) ≡ all allowed s
-unfolding folded all
-all_pos [] = refl
-all_pos (b ∷ s) = rw (allowed_pos b, all_pos s)
-
--- folded bytes are those of a term exactly when the bytes are a term
-pub is_name-folded : (s : List ℕ) → is_name (folded s) ≡ is_term s
-unfolding is_name is_term
-is_name-folded s = rw (length-folded s, all_pos s)
 
 -- ---- the hash
 
@@ -168,12 +117,31 @@ pub fnv1a_small : (s : List ℕ) → fnv1a s < 2 ^ 32
 unfolding fnv1a
 fnv1a_small s = mixed_all_small 2166136261 s (omega arith)
 
--- ---- what judging folded bytes tells
+-- ---- bytes folded and judged in one pass
 
-pub judged_term : (s : List ℕ) → (judged_as (folded s)).term ≡ is_term s
-unfolding judged_as
-judged_term s = is_name-folded s
+-- a byte is allowed exactly when it does not fold to 0
+pub allowed_pos : (b : ℕ) → ltb 0 (fold_byte b) ≡ allowed b
+unfolding fold_byte allowed capital
+allowed_pos b = grind (arith, nat_tests)
 
-pub judged_hash : (w : List ℕ) → (judged_as w).hash ≡ fnv1a w
+-- one byte more of a list: folded, stored behind those before it, and mixed into their hash
+module _ (s : List ℕ) (i : ℕ) (h : i < length s) where
+  folded_more : folded (take (i + 1) s) ≡ folded (take i s) ++ (fold_byte (get_or s i 0) ∷ [])
+  unfolding folded
+  folded_more = ap (map fold_byte) (take_more s i 0 h) ∙ map-append fold_byte (take i s) (get_or s i 0 ∷ [])
+
+  pub stored_more : (into : List ℕ) → set (sets into 0 (folded (take i s))) i (fold_byte (get_or s i 0)) ≡ sets into 0 (folded (take (i + 1) s))
+  stored_more into =
+      let e : i ≡ 0 + length (folded (take i s)) = rw (zero-add, length-folded, length-take) (omega arith) in
+      sets_behind into 0 (folded (take i s)) i (fold_byte (get_or s i 0) ∷ []) e ∙ ap (sets into 0) (sym folded_more)
+
+  pub mixed_more : mixed (fold mixed 2166136261 (folded (take i s))) (fold_byte (get_or s i 0)) ≡ fold mixed 2166136261 (folded (take (i + 1) s))
+  mixed_more = sym (ap (fold mixed 2166136261) folded_more ∙ fold_push mixed 2166136261 (folded (take i s)) (fold_byte (get_or s i 0)))
+
+pub judged_term : (s : List ℕ) → (judged_as s).term ≡ is_term s
 unfolding judged_as
-judged_hash w = refl
+judged_term s = refl
+
+pub judged_hash : (s : List ℕ) → (judged_as s).hash ≡ fnv1a (folded s)
+unfolding judged_as
+judged_hash s = refl

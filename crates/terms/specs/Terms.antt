@@ -1,5 +1,5 @@
 -- Terms: which bytes they may have and how they are folded (document 01, "Frames"), and their hash ("Finding a term").
-use Rattle.std.specs.Prelude.{ℕ, ◌+◌, ◌*◌, ◌%◌, ◌^◌, List, map, fold, Bool, cond, ◌&&◌, leb, ltb, length}
+use Rattle.std.specs.Prelude.{ℕ, ◌+◌, ◌*◌, ◌%◌, ◌^◌, List, map, fold, Bool, cond, ◌&&◌, leb, length}
 use Rattle.std.specs.Int.Bits.{bit_xor}
 use Rattle.basics.specs.Lists.{all}
 use Rattle.terms.specs.declared.Judged.{Judged}
@@ -37,11 +37,7 @@ mixed hash b = bit_xor hash b * 16777619 % 2 ^ 32
 unfoldable pub fnv1a : List ℕ → ℕ
 fnv1a s = fold mixed 2166136261 s
 
--- ---- folded bytes, judged once
-
--- the folded bytes of a term: 1 to 36, and none is 0, which is what a barred byte gives
-unfoldable pub is_name : List ℕ → Bool
-is_name w = leb 1 (length w) && leb (length w) max_term && all (ltb 0) w
+-- ---- bytes folded and judged in one pass
 
 unfoldable pub judged_as : List ℕ → Judged
-judged_as w = record { term = is_name w; hash = fnv1a w }
+judged_as s = record { term = is_term s; hash = fnv1a (folded s) }

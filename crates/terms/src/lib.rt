@@ -2,7 +2,7 @@
 // term").
 #![tactic(auto)]
 
-ghost use Rattle.std.specs.Prelude.{◌≡◌, true, ◌≤◌, length};
+ghost use Rattle.std.specs.Prelude.{ℕ, ◌≡◌, true, ◌≤◌, ◌<◌, length, get_or};
 ghost use Rattle.std.proofs.lemmas.List.Edits.{sets};
 ghost use Rattle.terms.specs.Terms.{fold_byte, folded, is_term, mixed, fnv1a, judged_as};
 
@@ -13,11 +13,19 @@ pub use name::{Folded, Name};
 // The longest term.
 pub const MAX_TERM: usize = 36;
 
-// Whether folded bytes are those of a term, and their FNV-1a.
+// Whether bytes are a term, and FNV-1a of them folded.
 #[derive(Clone, Copy)]
 pub struct Judged {
     pub term: bool,
     pub hash: u32,
+}
+
+// The folding table as it is lent to those who fold: a function that reads the constant itself would copy it with every
+// byte.
+#[derive(Clone, Copy)]
+pub struct FoldingTable {
+    entries: [u8; 256],
+    ghost rule: { (b : ℕ) → b < 256 → get_or entries b 0 ≡ fold_byte b },
 }
 
 // The folded byte, or 0 where the byte is barred.
@@ -45,11 +53,18 @@ const START: u32 = 2166136261;
 
 const PRIME: u32 = 16777619;
 
-// A byte folded by the table, which has 0 for a barred one.
-fn entry_of(b: u8) -> u8
-    ensures { result ≡ fold_byte b }
-{
-    FOLDED[usize::from(b)]
+impl FoldingTable {
+    #[tactic(auto, using(crate::proofs::Folding::rule))]
+    pub fn new() -> Self {
+        FoldingTable { entries: FOLDED }
+    }
+
+    // A byte folded, or 0 where it is barred.
+    fn entry_of(&self, b: u8) -> u8
+        ensures { result ≡ fold_byte b }
+    {
+        self.entries[usize::from(b)]
+    }
 }
 
 // Whether the bytes are a term.
@@ -57,7 +72,8 @@ fn entry_of(b: u8) -> u8
 pub fn is_term(s: &[u8]) -> bool
     ensures { result ≡ is_term s.now }
 {
-    1 <= s.len() && s.len() <= MAX_TERM && s.iter().all(|b| entry_of(*b) != 0)
+    let table = FoldingTable::new();
+    1 <= s.len() && s.len() <= MAX_TERM && s.iter().all(|b| table.entry_of(*b) != 0)
 }
 
 // One byte more into a hash.
@@ -76,40 +92,23 @@ pub fn fnv1a(s: &[u8]) -> u32
     s.iter().fold(START, |hash, b| mix(hash, *b))
 }
 
-// A byte folded by the rule. A loop over it takes sixteen bytes at a time, one over the table only one. With a match on
-// ranges in place of the test a short term takes twice as long.
-#[tactic(auto, using(crate::proofs::Laws::folding))]
-fn fold_byte(b: u8) -> u8
-    ensures { result ≡ fold_byte b }
-{
-    if b.is_ascii_graphic() {
-        b.to_ascii_lowercase()
-    } else {
-        0
-    }
-}
-
-// Writes the folded bytes at the front of `into`.
-pub fn fold(s: &[u8], into: &mut [u8])
+// Folds bytes into the front of `into`, judges them and takes their hash, in one pass. A barred byte is folded to 0, so
+// that the least folded byte tells whether there is one.
+pub fn fold(s: &[u8], table: &FoldingTable, into: &mut [u8]) -> Judged
     requires { length s.now ≤ length into.old }
-    ensures { into.new ≡ sets into.old 0 (folded s.now) }
-{
-    basics::map_into(s, into, fold_byte);
-}
-
-// Judges folded bytes and takes their hash in one pass. A barred byte is folded to 0, so that the least byte tells
-// whether there is one.
-pub fn judge(name: &[u8]) -> Judged
-    ensures { result ≡ judged_as name.now }
+    ensures folded { into.new ≡ sets into.old 0 (folded s.now) }
+    ensures judged { result ≡ judged_as s.now }
 {
     let mut hash = START;
     let mut least = u8::MAX;
-    for b in name {
-        least = least.min(*b);
-        hash = mix(hash, *b);
+    for (i, b) in s.iter().enumerate() {
+        let f = table.entry_of(*b);
+        into[i] = f;
+        least = least.min(f);
+        hash = mix(hash, f);
     }
     Judged {
-        term: 1 <= name.len() && name.len() <= MAX_TERM && 0 < least,
+        term: 1 <= s.len() && s.len() <= MAX_TERM && 0 < least,
         hash,
     }
 }

@@ -1,21 +1,17 @@
 use Rattle.std.proofs.Common.{ℕ, ◌≡◌, ◌<◌, ◌||◌, Bool, List, get_or, sym, ◌∙◌, arith}
 use Rattle.basics.specs.Lists.{same}
-use Rattle.frames.specs.Frames.{count_bytes, folded_at}
+use Rattle.frames.specs.Frames.{folded_at}
 use Rattle.frames.specs.Repeats.{slot_of, chain, Chained}
-use Rattle.frames.proofs.Fields.{field_term}
 use Rattle.frames.proofs.Repeats.{has_term, has_none, has_more}
 use Rattle.frames.proofs.in_chain.Goals as goal
 
 -- a turn at the line in hand, r being whether its folded term is t
-turn : (f t : List ℕ) {earlier : List ℕ} {whole at : ℕ} (last : ℕ) {r : Bool} → Chained f earlier whole → 0 < at → has_term f t (chain earlier last) ≡ has_term f t (chain earlier at) → r ≡ same t (folded_at f at)
+turn : (f t : List ℕ) {names earlier : List ℕ} {whole at : ℕ} (last : ℕ) {r : Bool} → Chained f names earlier whole → 0 < at → has_term f t (chain earlier last) ≡ has_term f t (chain earlier at) → r ≡ same t (folded_at f at)
     → has_term f t (chain earlier last) ≡ r || has_term f t (chain earlier (get_or earlier (slot_of at) 0))
 turn f t {earlier} last h p e q = e ∙ has_more f t earlier h.falls _ p ∙ rw q
 
-pub name-requires : goal.name-requires
-name-requires c = field_term count_bytes _ _ c.requires.1
-
 pub name-requires-in-loop-at : goal.name-requires-in-loop-at
-name-requires-in-loop-at c = field_term count_bytes _ _ (c.loop-at.invariant.line (omega arith))
+name-requires-in-loop-at c = c.loop-at.invariant.line (omega arith)
 
 pub returns-then-same_bytes : goal.returns-then-same_bytes
 returns-then-same_bytes c =

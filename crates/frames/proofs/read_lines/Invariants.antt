@@ -9,5 +9,5 @@ invariant-loop-c l = record {
   can : (goal.iterator-loop-c).can_next l.c-iterator;
   ends : (goal.iterator-loop-c).is_finite l.c-iterator;
   over : Over l.frame count_bytes l.c-iterator;
-  read : Reading l.frame l.hashes l.c-iterator.at l.n l.bad l.zero;
+  read : Reading l.frame l.names l.hashes l.c-iterator.at l.n l.bad l.zero;
 }

@@ -10,7 +10,7 @@ use Rattle.frames.proofs.Repeats.{has_term, bucket, Passed, passed_none, passed_
 use Rattle.frames.proofs.repeated_term.Goals as goal
 
 -- a turn at the line of which x is the hash, r being whether the chain of its bucket has its term
-module _ {f hashes others last earlier : List ℕ} {s t : Cursors} {c : Cursor} {x : ℕ} (p : Passed f last earlier s.at) (g : Turn f count_bytes s c t)
+module _ {f names hashes others last earlier : List ℕ} {s t : Cursors} {c : Cursor} {x : ℕ} (p : Passed f names last earlier s.at) (g : Turn f count_bytes s c t)
     (e : hashes ≡ hashes_of f (fields count_bytes f s.at)) (q : hashes ≡ x ∷ others) where
   small : c.at < 5 * slots
   small = omega (arith, g.here, g.starts, (p.chained 0).room)
@@ -26,7 +26,7 @@ module _ {f hashes others last earlier : List ℕ} {s t : Cursors} {c : Cursor} 
     found : r ≡ true → repeated_term f (lines f) ≡ true
     found z = passed_found p g.starts (test ∙ z)
 
-    on : r ≡ false → Passed f (set last (x % 256) c.at) (set earlier (slot_of c.at) (get_or last (x % 256) 0)) t.at
+    on : r ≡ false → Passed f names (set last (x % 256) c.at) (set earlier (slot_of c.at) (get_or last (x % 256) 0)) t.at
     on z = rw (g.here, g.past, bucket-is) (passed_more p g.starts (test ∙ z))
 
 pub loop-c-init : goal.loop-c-init
@@ -39,8 +39,8 @@ loop-c-init c =
       can = (tt, tt);
       ends = tt;
       over = o.0;
-      hashed = rw (o.1, g) (c.zip-c-items.ensures.second.0 ∙ c.requires.2);
-      passed = rw o.1 (passed_none f 256 820 refl refl (omega arith) c.requires.1);
+      hashed = rw (o.1, g) (c.zip-c-items.ensures.second.0 ∙ c.requires.hashed);
+      passed = rw o.1 (passed_none f c.args.folded.names.now 256 820 refl refl (omega (arith, c.requires.short)) c.requires.whole c.requires.folds);
     }
 
 pub in_chain-requires : goal.in_chain-requires

@@ -15,5 +15,5 @@ invariant-loop-c l =
       ends : (goal.iterator-loop-c).is_finite l.c-iterator;
       over : Over f count_bytes l.c-iterator.a;
       hashed : iter_rest l.c-iterator.b ≡ hashes_of f (fields count_bytes f l.c-iterator.a.at);
-      passed : Passed f l.last l.earlier l.c-iterator.a.at;
+      passed : Passed f l.folded.names.now l.last l.earlier l.c-iterator.a.at;
     }

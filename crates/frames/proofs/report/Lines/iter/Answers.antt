@@ -5,4 +5,4 @@ pub invariant_of-result : goal.invariant_of-result
 invariant_of-result c =
     let s = c.args.self in
     let l = sound-lines s.frame.now s.sound in
-    record { folded = s.folded; whole = l.whole; good = l.good; hashed = s.hashed }
+    record { room = s.room; folded = s.folded; whole = l.whole; good = l.good; hashed = s.hashed }

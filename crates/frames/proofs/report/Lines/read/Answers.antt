@@ -8,6 +8,7 @@ invariant_of-result c =
     let e = c.in_ok-count.ensures in
     record {
       sound = sym e.refused;
+      room = e.read.room;
       folded = e.read.folds;
       hashed = all-hashes c.args.frame.now c.in_ok-count.count e.read.hashed e.count;
       few = omega (arith, length-take {A = ℕ}, e.count, e.read.few);

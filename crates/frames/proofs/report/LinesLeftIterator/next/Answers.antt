@@ -1,9 +1,9 @@
 use Rattle.std.proofs.Common.{◌<◌, length, sym, refl, arith}
 use Rattle.frames.specs.declared.report.LinesLeft.{LinesLeft}
 use Rattle.frames.specs.Frames.{count_bytes}
-use Rattle.frames.proofs.Fields.{field_term, whole-on}
+use Rattle.frames.proofs.Fields.{whole-on}
 use Rattle.frames.proofs.Conditions.{good_on}
-use Rattle.frames.proofs.Read.{hashes-some, hashes-none, first-hash, other-hashes}
+use Rattle.frames.proofs.Read.{folds_here, folds_on, hashes-some, hashes-none, first-hash, other-hashes}
 use Rattle.frames.proofs.Laws.{Sound, sound_field, sound-name, sound-some}
 use Rattle.frames.proofs.report.LinesLeftIterator.next.Goals as goal
 
@@ -24,7 +24,8 @@ past-requires c = (starts c.args.self.now (omega (arith, c.in_ok-hash.ensures.ca
 pub name-requires : goal.name-requires
 name-requires c =
     let s = c.args.self.now in
-    field_term count_bytes s.frame.now s.at (sound_field (sound_left s) (starts s (omega (arith, c.in_ok-hash.ensures.cases.1))))
+    let h = starts s (omega (arith, c.in_ok-hash.ensures.cases.1)) in
+    record { whole = sound_field (sound_left s) h; folds = folds_here s.frame.now s.names.now s.at h s.folded }
 
 pub count-requires : goal.count-requires
 count-requires c =
@@ -36,7 +37,8 @@ invariant_of-self c =
     let h = starts s (omega (arith, c.in_ok-hash.ensures.cases.1)) in
     rw c.past.ensures
     (record {
-      folded = s.folded;
+      room = s.room;
+      folded = folds_on s.frame.now s.names.now s.at h s.folded;
       whole = whole-on count_bytes s.frame.now s.at s.whole h;
       good = good_on count_bytes s.frame.now s.at h s.good;
       hashed = other-hashes s.frame.now s.at s.hashed _ _ c.in_ok-hash.ensures.cases.0 h;
