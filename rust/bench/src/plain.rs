@@ -19,14 +19,17 @@ pub const PLAIN: Calls = Calls {
 
 type Block = [u8; BLOCK_BYTES];
 
-/// The folded byte, or 0 for a barred one. A loop over this takes sixteen bytes at a time, one over
-/// a table only one.
-fn fold(byte: u8) -> u8 {
-    match byte {
-        b'A'..=b'Z' => byte + 32,
-        0x21..=0x7E => byte,
-        _ => 0,
+/// The folded byte, or 0 for a barred one.
+static FOLDED: [u8; 256] = folded_bytes();
+
+const fn folded_bytes() -> [u8; 256] {
+    let mut table = [0; 256];
+    let mut byte = 0x21;
+    while byte <= 0x7E {
+        table[byte] = (byte as u8).to_ascii_lowercase();
+        byte += 1;
     }
+    table
 }
 
 /// Starts an index.
@@ -76,7 +79,7 @@ fn list_all(
 ) -> ListAnswer {
     let (blocks, _) = arena.as_chunks::<BLOCK_BYTES>();
     match named_heads(blocks, table, counters, frame, 3, 8) {
-        Ok(Some(named)) => fill_all(blocks, named, numbers),
+        Ok(Some(named)) => fill_all(blocks, &named, numbers),
         Ok(None) => answer(0, false, 0),
         Err(refusal) => answer(refusal, false, 0),
     }
@@ -134,7 +137,7 @@ fn check_head(frame: &[u8], kind: u8) -> Result<(), u8> {
 /// Reads the fields from `at` on in one pass: refusals 4 to 6. A field has `behind` bytes behind its
 /// term.
 fn read_lines(frame: &[u8], mut at: usize, behind: usize, most: usize) -> Result<Lines, u8> {
-    let folded: Vec<u8> = frame.iter().map(|byte| fold(*byte)).collect();
+    let mut folded = frame.to_vec();
     let mut lines = Vec::with_capacity(frame.len() / (2 + behind));
     let (mut bad_term, mut zero_count) = (false, false);
     while at < frame.len() {
@@ -145,12 +148,14 @@ fn read_lines(frame: &[u8], mut at: usize, behind: usize, most: usize) -> Result
         if at > frame.len() {
             return Err(4);
         }
-        let (mut hash, mut least) = (2_166_136_261u32, u8::MAX);
-        for byte in &folded[from..to] {
-            least = least.min(*byte);
-            hash = (hash ^ u32::from(*byte)).wrapping_mul(16_777_619);
+        let mut hash = 2_166_136_261u32;
+        for byte in &mut folded[from..to] {
+            let plain = FOLDED[usize::from(*byte)];
+            bad_term |= plain == 0;
+            *byte = plain;
+            hash = (hash ^ u32::from(plain)).wrapping_mul(16_777_619);
         }
-        bad_term |= least == 0 || length == 0 || length > 36;
+        bad_term |= length == 0 || length > 36;
         let count = if behind == 4 { word(frame, to) } else { 1 };
         zero_count |= count == 0;
         lines.push(Line {
@@ -237,11 +242,6 @@ impl Head {
 /// Writes the fields of a head that a posting changes.
 fn put_changing(block: &mut Block, tail: u32, last: u32, postings: u32, end: usize) {
     put_word(block, 4, tail);
-    put_growing(block, last, postings, end);
-}
-
-/// Those that it changes where it stays in the tail.
-fn put_growing(block: &mut Block, last: u32, postings: u32, end: usize) {
     put_word(block, 8, last);
     put_word(block, 12, postings);
     block[16] = end as u8;
@@ -306,77 +306,20 @@ fn take(
     }
     check_counters(blocks, table, counters)?;
     let number = counters.reports.checked_add(1).ok_or(9)?;
-    let mut kept = ask_ahead(blocks, table, counters, &read.lines);
     let (mut terms, mut needed) = (0, 0);
-    for (line, entry) in read.lines.iter().zip(&mut kept) {
-        let place = place_of(blocks, table, counters, line, read.term(line)).ok_or(10)?;
-        let found = match place {
-            Place::New(_) => {
-                terms += 1;
-                needed += 1;
-                0
-            }
-            Place::Spills(head, _) => {
-                needed += 1;
-                head + 1
-            }
-            Place::Stays(head, _) => head + 1,
-        };
-        // An entry is kept where the term was found right there.
-        if found != *entry {
-            *entry = 0;
+    for line in &read.lines {
+        match place_of(blocks, table, counters, line, read.term(line)).ok_or(10)? {
+            Place::New(_) => (terms, needed) = (terms + 1, needed + 1),
+            Place::Spills(..) => needed += 1,
+            Place::Stays(..) => {}
         }
     }
     check_room(blocks, table, counters, terms, needed)?;
-    let mut marks = [false; MARKS];
-    for (line, entry) in read.lines.iter().zip(&kept) {
-        // A head that no posting was put into as another's tail still holds the term found there.
-        let place = if *entry != 0 && !marks[(*entry - 1) as usize % MARKS] {
-            place_at(blocks, counters, *entry - 1, line.count)
-        } else {
-            place_of(blocks, table, counters, line, read.term(line))
-        };
-        let term = read.term(line);
-        write_line(
-            blocks,
-            table,
-            counters,
-            number,
-            line,
-            term,
-            place.ok_or(13)?,
-            &mut marks,
-        )?;
+    for line in &read.lines {
+        write_line(blocks, table, counters, number, line, read.term(line))?;
     }
     counters.reports = number;
     Ok(number)
-}
-
-/// How many marks there are for the tails that were written to in a report.
-const MARKS: usize = 1024;
-
-/// Reads the first slot of every line, and then every head behind them, before the first line is
-/// looked up: these reads miss the caches, and in this way they overlap. Gives the entries of the
-/// slots.
-fn ask_ahead(blocks: &[Block], table: &[u32], counters: &Counters, lines: &[Line]) -> Vec<u32> {
-    let slots = slots(table);
-    if slots == 0 {
-        return vec![0; lines.len()];
-    }
-    let entry = |line: &Line| table[(line.hash % slots) as usize];
-    let entries: Vec<u32> = lines.iter().map(entry).collect();
-    let used = &blocks[..counters.used as usize];
-    let length = |entry: &u32| {
-        used.get((*entry).wrapping_sub(1) as usize)
-            .map_or(0, |head| head[17])
-    };
-    let any = entries
-        .iter()
-        .map(length)
-        .fold(0, |any: u8, byte| any | byte);
-    // Without a use the compiler would leave the reads out.
-    std::hint::black_box(any);
-    entries
 }
 
 fn capacity(blocks: &[Block]) -> u32 {
@@ -456,15 +399,11 @@ fn place_of(
     line: &Line,
     term: &[u8],
 ) -> Option<Place> {
-    match find(blocks, table, counters.used, line.hash, term)? {
-        Ok(head) => place_at(blocks, counters, head, line.count),
-        Err(slot) => Some(Place::New(slot)),
-    }
-}
-
-/// The same for a line whose term's head is known.
-fn place_at(blocks: &[Block], counters: &Counters, number: u32, count: u32) -> Option<Place> {
     let Counters { used, reports, .. } = *counters;
+    let number = match find(blocks, table, used, line.hash, term)? {
+        Ok(head) => head,
+        Err(slot) => return Some(Place::New(slot)),
+    };
     let head = Head::of(&blocks[number as usize]);
     if !head.is_in_place(number, used) || head.last > reports || head.postings > reports {
         return None;
@@ -472,18 +411,13 @@ fn place_at(blocks: &[Block], counters: &Counters, number: u32, count: u32) -> O
     if word(&blocks[head.tail as usize], 0) > reports {
         return None;
     }
-    // A code has at most 10 bytes, so that its length matters only near the block's end.
-    let fits = head.end <= BLOCK_BYTES - 10
-        || head.end + code_length(reports + 1 - head.last, count) <= BLOCK_BYTES;
-    if fits {
+    if head.end + code_length(reports + 1 - head.last, line.count) <= BLOCK_BYTES {
         return Some(Place::Stays(number, head));
     }
     Some(Place::Spills(number, head))
 }
 
-/// Writes a line that was judged afresh, or gives refusal 13; marks the tail that it was put into.
-#[allow(clippy::too_many_arguments)]
-#[inline(always)]
+/// Judges a line afresh and writes it, or gives refusal 13.
 fn write_line(
     blocks: &mut [Block],
     table: &mut [u32],
@@ -491,19 +425,14 @@ fn write_line(
     number: u32,
     line: &Line,
     term: &[u8],
-    place: Place,
-    marks: &mut [bool; MARKS],
 ) -> Result<(), u8> {
     let next = counters.used;
-    match place {
+    match place_of(blocks, table, counters, line, term).ok_or(13)? {
         Place::Stays(h, head) => {
             let tail = &mut blocks[head.tail as usize];
             let end = put_posting(tail, head.end, number - head.last, line.count);
             let block = &mut blocks[h as usize];
-            put_growing(block, number, head.postings + 1, end);
-            if head.tail != h {
-                marks[head.tail as usize % MARKS] = true;
-            }
+            put_changing(block, head.tail, number, head.postings + 1, end);
         }
         Place::Spills(h, head) => {
             check_room(blocks, table, counters, 0, 1).map_err(|_| 13)?;
@@ -585,25 +514,12 @@ fn named_heads(
 }
 
 /// The gap and the count of the posting at `at` and the offset past it. Codes of one byte, which
-/// most are, are told by that byte alone, and most others by two.
+/// most are, are told by that byte alone.
 #[inline(always)]
 fn decode(part: &[u8], at: usize) -> Option<(u32, u32, usize)> {
     let byte = part[at];
     if byte < 128 && byte & 3 != 0 {
         return Some((u32::from(byte >> 2) + 1, u32::from(byte & 3), at + 1));
-    }
-    if at + 1 < part.len() {
-        let next = part[at + 1];
-        if next != 0 && next < 128 {
-            if byte < 128 {
-                if byte != 0 {
-                    return Some((u32::from(byte >> 2), u32::from(next) + 3, at + 2));
-                }
-            } else if byte & 3 != 0 {
-                let first = u32::from(byte & 0x7F) | u32::from(next) << 7;
-                return Some(((first >> 2) + 1, first & 3, at + 2));
-            }
-        }
     }
     decode_long(part, at)
 }
@@ -630,24 +546,19 @@ fn decode_value(part: &[u8], at: usize, most: u64) -> Option<(u64, usize)> {
 }
 
 /// Reads the chain of a head whole. Only the first number of a block can fall behind the last one of
-/// the block before, so that only there this is looked at. The link of the next block is read before
-/// the block at hand, so that the wait for it overlaps with the reading.
+/// the block before, so that only there this is looked at.
 fn is_sound(blocks: &[Block], used: u32, reports: u32, number: u32) -> bool {
-    let used_blocks = &blocks[..used as usize];
     let head = Head::of(&blocks[number as usize]);
     if !head.is_in_place(number, used) {
         return false;
     }
     let (mut at, mut b) = (18 + head.length, number);
-    let mut next = word(&blocks[number as usize], 0);
     let (mut first, mut last, mut postings) = (0, 0, 0);
     for _ in 0..used {
-        let Some(block) = used_blocks.get(b as usize) else {
+        if b >= used {
             return false;
-        };
-        let after = used_blocks
-            .get(next as usize)
-            .map_or(0, |block| word(block, 0));
+        }
+        let block = &blocks[b as usize];
         let is_tail = b == head.tail;
         let end = if is_tail { head.end } else { BLOCK_BYTES };
         let Some(read) = read_block(&block[..end], at, is_tail, first, reports) else {
@@ -661,7 +572,7 @@ fn is_sound(blocks: &[Block], used: u32, reports: u32, number: u32) -> bool {
         if is_tail {
             return postings == head.postings && last == head.last;
         }
-        (b, next, at) = (next, after, 4);
+        (b, at) = (word(block, 0), 4);
     }
     false
 }
@@ -674,107 +585,31 @@ struct Read {
 }
 
 /// Reads the part of one block from `at` on; its first gap counts from `base`. Nothing is given
-/// where it has no posting, a code is rejected or a number is over `reports`, which the last number
-/// tells for all of them. No code starts with a null byte, so that this end of a part is looked for
-/// only where decoding fails.
+/// where it has no posting, a code is rejected or a number is over `reports`.
 fn read_block(part: &[u8], at: usize, is_tail: bool, base: u32, reports: u32) -> Option<Read> {
     if at >= part.len() {
         return None;
     }
-    let (gap, _, at) = decode(part, at)?;
-    let first = u64::from(base) + u64::from(gap);
-    let mut sum = Sum {
-        at,
-        last: first,
-        postings: 1,
-    };
-    let front = part.len().min(ROWS);
-    let mut ended = add_up(part, &mut sum, front);
-    if let (ROWS, Ok(block)) = (sum.at, <&Block>::try_from(part)) {
-        if let Some((gaps, postings)) = read_rows(block) {
-            sum.at = BLOCK_BYTES;
-            sum.last += u64::from(gaps);
-            sum.postings += postings;
-        }
-    }
-    ended = ended && add_up(part, &mut sum, part.len());
-    if !ended && (is_tail || part[sum.at] != 0) {
+    let (gap, _, mut at) = decode(part, at)?;
+    if gap > reports - base {
         return None;
     }
-    (sum.last <= u64::from(reports)).then_some(Read {
-        first: first as u32,
-        last: sum.last as u32,
-        postings: sum.postings,
+    let first = base + gap;
+    let (mut last, mut postings) = (first, 1);
+    while at < part.len() && (is_tail || part[at] != 0) {
+        let (gap, _, past) = decode(part, at)?;
+        if gap > reports - last {
+            return None;
+        }
+        (last, at) = (last + gap, past);
+        postings += 1;
+    }
+    Some(Read {
+        first,
+        last,
+        postings,
     })
 }
-
-/// Postings added up: the offset past them, the number that they lead to, and how many they are.
-struct Sum {
-    at: usize,
-    last: u64,
-    postings: u32,
-}
-
-/// Adds up the postings that start before `stop`; false where one is rejected.
-#[inline(always)]
-fn add_up(part: &[u8], sum: &mut Sum, stop: usize) -> bool {
-    while sum.at < stop {
-        let Some((gap, _, past)) = decode(part, sum.at) else {
-            return false;
-        };
-        (sum.last, sum.at) = (sum.last + u64::from(gap), past);
-        sum.postings += 1;
-    }
-    true
-}
-
-/// Where the three rows of sixteen bytes start in a block.
-const ROWS: usize = 16;
-
-/// What a byte with two others before it adds to the gaps, where all values have one byte: nothing
-/// if it is the second byte of a code.
-#[inline(always)]
-fn gap_of(byte: u8, before: u8, earlier: u8) -> u8 {
-    match (before % 4 == 0 && earlier % 4 != 0, byte % 4) {
-        (true, _) => 0,
-        (false, 0) => byte / 4,
-        (false, _) => byte / 4 + 1,
-    }
-}
-
-/// What it adds to the number of postings; 64 where it is no value of one byte or where the two
-/// bytes before it do not tell.
-#[inline(always)]
-fn mark_of(byte: u8, before: u8, earlier: u8) -> u8 {
-    let unfit = byte == 0 || byte > 127 || (byte % 4 == 0 && before % 4 == 0 && earlier % 4 == 0);
-    match (unfit, before % 4 == 0 && earlier % 4 != 0) {
-        (true, _) => 64,
-        (false, true) => 0,
-        (false, false) => 1,
-    }
-}
-
-/// The gaps and the number of the postings in the rows, where these start with a code and all their
-/// values have one byte. The loop is one the compiler does for sixteen places at once.
-fn read_rows(block: &Block) -> Option<(u32, u32)> {
-    if block[15] % 4 == 0 || (block[63] % 4 == 0 && block[62] % 4 != 0) {
-        return None;
-    }
-    let (mut gaps, mut marks) = ([0u8; 16], [0u8; 16]);
-    for i in 0..16 {
-        for row in [16, 32, 48] {
-            let at = row + i;
-            gaps[i] += gap_of(block[at], block[at - 1], block[at - 2]);
-            marks[i] += mark_of(block[at], block[at - 1], block[at - 2]);
-        }
-    }
-    let total = |lanes: [u8; 16]| lanes.iter().map(|lane| u32::from(*lane)).sum::<u32>();
-    let postings = total(marks);
-    (postings < 64).then(|| (total(gaps), postings))
-}
-
-/// The bit of a window's first report.
-const HIGHEST: u64 = 1 << 63;
 
 /// A place in a chain that was found sound, so that nothing is judged again.
 #[derive(Clone, Copy)]
@@ -840,16 +675,10 @@ impl<'a> Cursor<'a> {
         }
     }
 
-    /// Whether another posting stands in the block.
-    #[inline(always)]
-    fn has_more(&self) -> bool {
-        self.at < self.end && (self.is_tail || self.block[self.at] != 0)
-    }
-
     /// Goes one posting on; false at the end of the chain.
     #[inline(always)]
     fn advance(&mut self) -> bool {
-        if self.has_more() {
+        if self.at < self.end && (self.is_tail || self.block[self.at] != 0) {
             self.read();
             return true;
         }
@@ -860,52 +689,15 @@ impl<'a> Cursor<'a> {
         true
     }
 
-    /// Goes on to the first posting at or past a number; false where there is none. Behind the block
-    /// at hand, whole blocks are passed by their first posting alone.
+    /// Goes on to the first posting at or past a number; false where there is none.
     #[inline(always)]
     fn seek(&mut self, number: u32) -> bool {
         while self.number < number {
-            if self.has_more() {
-                self.read();
-                continue;
-            }
-            if self.is_tail {
+            if !self.advance() {
                 return false;
             }
-            self.open(word(self.block, 0), 4);
-            while self.number < number && self.pass_block(number) {}
         }
         true
-    }
-
-    /// Goes on to the first posting at or past `to` and marks the reports on the way, up to `to`.
-    #[inline(always)]
-    fn mark(&mut self, base: u32, to: u32) -> u64 {
-        let mut mask = 0;
-        loop {
-            if self.number <= to {
-                mask |= HIGHEST >> (self.number - base);
-            }
-            if self.number >= to || !self.advance() {
-                return mask;
-            }
-        }
-    }
-
-    /// Goes on to the next block where that one's first number is not over `number`.
-    #[inline(always)]
-    fn pass_block(&mut self, number: u32) -> bool {
-        if self.is_tail {
-            return false;
-        }
-        let next = word(self.block, 0);
-        match decode(&self.blocks[next as usize], 4) {
-            Some((gap, _, _)) if self.first + gap <= number => {
-                self.open(next, 4);
-                true
-            }
-            _ => false,
-        }
     }
 }
 
@@ -930,44 +722,39 @@ fn fill_one(
     answer(0, true, places)
 }
 
-/// Lists window by window: 64 reports, each a bit, the first the highest. The rarest chain marks its
-/// reports, every other one keeps those that it holds too.
-fn fill_all(blocks: &[Block], mut named: Named, numbers: &mut [u32]) -> ListAnswer {
-    let heads = &mut named.heads[..named.count];
-    heads.sort_unstable_by_key(|head| word(&blocks[*head as usize], 12));
+/// The cursor of the first term gives a number, which every other cursor goes on to.
+fn fill_all(blocks: &[Block], named: &Named, numbers: &mut [u32]) -> ListAnswer {
+    let heads = &named.heads[..named.count];
     let cursors = heads.iter().map(|head| Cursor::at_first(blocks, *head));
     let mut cursors: Vec<Cursor> = cursors.collect();
+    let (first, others) = cursors.split_first_mut().expect("a query names a term");
     let mut filled = 0;
-    let mut base = named.start.max(1);
-    loop {
-        let mut to = base.saturating_add(63);
-        let mut next = u64::from(to) + 1;
-        let mut mask = u64::MAX;
-        for cursor in &mut cursors {
-            if mask == 0 {
-                break;
-            }
-            if !cursor.seek(base) {
+    let mut sought = named.start;
+    while first.seek(sought) {
+        sought = first.number;
+        let mut held = true;
+        for other in others.iter_mut() {
+            if !other.seek(sought) {
                 return answer(0, false, filled);
             }
-            mask &= cursor.mark(base, to);
-            if mask != 0 {
-                to = base + (63 - mask.trailing_zeros());
+            if other.number > sought {
+                // No report before this one holds all terms.
+                sought = other.number;
+                held = false;
+                break;
             }
-            next = next.max(u64::from(cursor.number));
         }
-        while mask != 0 {
-            let first = mask.leading_zeros();
+        if held {
             if filled == numbers.len() {
                 return answer(0, true, filled);
             }
-            numbers[filled] = base + first;
+            numbers[filled] = sought;
             filled += 1;
-            mask ^= HIGHEST >> first;
-        }
-        match u32::try_from(next) {
-            Ok(next) => base = next,
-            Err(_) => return answer(0, false, filled),
+            sought = match sought.checked_add(1) {
+                Some(next) => next,
+                None => return answer(0, false, filled),
+            };
         }
     }
+    answer(0, false, filled)
 }
