@@ -1,5 +1,4 @@
 pub mod Capacity
 pub mod Fields
 pub mod Writes
-pub mod Names
 pub mod Marked

@@ -2,5 +2,4 @@ pub mod Places
 pub mod Standing
 pub mod Plans
 pub mod Writing
-pub mod Keeping
 pub mod Calls

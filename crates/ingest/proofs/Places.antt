@@ -11,11 +11,10 @@ use Rattle.std.specs.Prelude.{Result, Ok, Err}
 use Rattle.basics.proofs.Cases.{by-eq}
 use Rattle.basics.proofs.Lists.{or_left, or_right}
 use Rattle.terms.specs.Terms.{fnv1a}
-use Rattle.frames.specs.Frames.{Line, count_at, folded_at, line_at}
-use Rattle.frames.proofs.Laws.{line-term, line-count}
+use Rattle.frames.specs.Frames.{Line}
 use Rattle.blocks.specs.declared.Head.{Head}
 use Rattle.blocks.specs.Fields.{link_of, head_of}
-use Rattle.blocks.specs.Writes.{fits, Appends, InTail}
+use Rattle.blocks.specs.Writes.{Appends, InTail}
 use Rattle.blocks.proofs.Capacity.{block_inside}
 use Rattle.chains.specs.Chains.{bad_head}
 use Rattle.chains.proofs.Laws.{Good, head_good}
@@ -28,8 +27,7 @@ use Rattle.lookup.proofs.Search.{Step, vacant, unused, found, passed, step, from
 use Rattle.counters.specs.declared.Counters.{Counters}
 use Rattle.counters.specs.Counters.{Memory}
 use Rattle.ingest.specs.declared.Place.{Place}
-use Rattle.ingest.specs.declared.Place.TheVariants.{Stays, Spills}
-use Rattle.ingest.specs.Report.{next_number, line_of, damaged_head, place_at, placed, place_of}
+use Rattle.ingest.specs.Report.{next_number, damaged_head, place_at, placed, place_of}
 use Rattle.ingest.specs.Needs.{Room, Below}
 
 -- ---- a known term's head
@@ -69,20 +67,6 @@ fine_appends a k h d r u w = record {
 -- where it stands, at the write offset of its tail
 pub fine_tail : (a : List ℕ) (k : Counters) (h : ℕ) {d : Head} → d ≡ head_of a h → Fine a k h d → InTail a h d
 fine_tail a k h e w = record { stands = e; behind = omega (arith, w.good.past) }
-
-module _ (a : List ℕ) (k : Counters) (f h : ℕ) where
-  pub at-damaged : damaged_head a k h (head_of a h) ≡ true → place_at a k f h ≡ Err Damaged
-  unfolding place_at
-  at-damaged e = rw e
-
-  module _ {d : Head} (q : d ≡ head_of a h) (e : damaged_head a k h d ≡ false) where
-    pub at-stays : fits d (next_number k) f ≡ true → place_at a k f h ≡ Ok (Stays h)
-    unfolding place_at
-    at-stays r = rw (← q, e, r)
-
-    pub at_spills : fits d (next_number k) f ≡ false → place_at a k f h ≡ Ok (Spills h)
-    unfolding place_at
-    at_spills r = rw (← q, e, r)
 
 -- ---- what a search finds
 
@@ -125,22 +109,3 @@ place_damage m l {r} e = go (sought m.arena m.counters.used m.table l.term) refl
     go (Ok (At h)) q p = at_damage m.arena m.counters l.count h p
     go (Ok (Unknown s)) q p = cc
     go (Err x) q p = let z : x ≡ r = cc in sought_damage m.arena m.counters.used m.table l.term (q ∙ ap Err z)
-
--- ---- the line at an offset of a frame
-
--- w and n are its folded term and its count
-module _ (f : List ℕ) (at : ℕ) {w : List ℕ} {n : ℕ} (b : w ≡ folded_at f at) (q : n ≡ count_at f at) where
-  -- its place, by what the search for the term found
-  pub read-place : (m : Memory) {x : Result Found Refusal} → sought m.arena m.counters.used m.table w ≡ x → place_of m (line_at f at) ≡ placed m.arena m.counters n x
-  unfolding place_of
-  read-place m e = rw (← e, q, b, line-term f at, line-count f at)
-
-  -- the line itself
-  pub read-line : line_of w n ≡ line_at f at
-  read-line = rw (q, b, ← line-term f at, ← line-count f at)
-
--- its count has no part in it where the search was refused
-pub read_refused : (f : List ℕ) (at : ℕ) {w : List ℕ} → w ≡ folded_at f at → (m : Memory) {r : Refusal} → sought m.arena m.counters.used m.table w ≡ Err r
-    → place_of m (line_at f at) ≡ Err r
-unfolding placed
-read_refused f at b m e = read-place f at b refl m e

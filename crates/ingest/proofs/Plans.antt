@@ -3,15 +3,15 @@
 use mathlib.Core.Path.{◌≡◌, refl, ap, ◌∙◌}
 use mathlib.Core.Bool.{true, false}
 use mathlib.Core.List.{List, [], ◌∷◌, map}
-use Prim.Native.Nat.{ℕ, ◌+◌, ◌-◌, ◌≤◌, ◌<◌}
+use Prim.Native.Nat.{ℕ, ◌+◌, ◌-◌, ◌≤◌}
 use native.Mathlib.Nat.{add-zero}
 use native.Mathlib.Omega.{arith}
-use borrow.Author.Tests.{lt-ltb, le-ltb, ltb-false}
+use borrow.Author.Tests.{ltb-false}
 use lib.Dec.{ltb}
 use Rattle.std.specs.Prelude.{Ok, Err}
 use Rattle.basics.specs.Lists.{any}
 use Rattle.frames.specs.Refusals.{◌if◌, first_of}
-use Rattle.frames.specs.Frames.{line_at, report_lines}
+use Rattle.frames.specs.Frames.{Line, report_lines}
 use Rattle.frames.proofs.Refusals.{first-empty, first_holds, first-zero, first_le}
 use Rattle.blocks.specs.Fields.{capacity}
 use Rattle.refusals.specs.declared.Refusal.{Refusal}
@@ -32,19 +32,6 @@ module _ (m : Memory) (p : Needed) where
   pub plan_damaged : p.damaged ≡ true → first_of (plan_rows m p) ≡ 10
   unfolding plan_rows
   plan_damaged e = first_holds (10 if p.damaged) _ e
-
-  -- the terms fit
-  module _ (e : p.damaged ≡ false) (l : m.counters.terms + p.terms ≤ max_terms m.table) where
-    -- 12: more blocks than are left
-    pub plan_blocks : capacity m.arena - m.counters.used < p.blocks → first_of (plan_rows m p) ≡ 12
-    unfolding plan_rows first_of
-    plan_blocks h =
-        rw (e, le-ltb (max_terms m.table) (m.counters.terms + p.terms) l, lt-ltb (capacity m.arena - m.counters.used) p.blocks h)
-
-    pub plan_none : p.blocks ≤ capacity m.arena - m.counters.used → first_of (plan_rows m p) ≡ 0
-    unfolding plan_rows first_of
-    plan_none h =
-        rw (e, le-ltb (max_terms m.table) (m.counters.terms + p.terms) l, le-ltb (capacity m.arena - m.counters.used) p.blocks h)
 
   -- what passes them
   pub record Passed : Type 0 where
@@ -86,18 +73,6 @@ blocks_le (New s) = omega arith
 blocks_le (Stays h) = omega arith
 blocks_le (Spills h) = omega arith
 
--- a new term needs a block and a slot, and no more
-module _ (m : Memory) (s : ℕ) where
-  pub new_room : first_of (plan_rows m (plan_of (Ok (New s) ∷ []))) ≡ 0 → (m.counters.used < capacity m.arena) × (m.counters.terms < max_terms m.table)
-  unfolding plan_of total terms_for blocks_for
-  new_room z =
-      let w = passed m (plan_of (Ok (New s) ∷ [])) z in
-      (omega (arith, w.blocks), omega (arith, w.terms))
-
-  pub new_passes : m.counters.used < capacity m.arena → m.counters.terms < max_terms m.table → first_of (plan_rows m (plan_of (Ok (New s) ∷ []))) ≡ 0
-  unfolding plan_of total is_damaged any terms_for blocks_for
-  new_passes u t = plan_none m (plan_of (Ok (New s) ∷ [])) refl (omega arith) (omega arith)
-
 -- ---- from line to line
 
 -- the places of the lines of a report from the n-th on
@@ -126,21 +101,21 @@ planned_none m f z =
 module _ {m : Memory} {f : List ℕ} {plan : Plan} {n : ℕ} (w : Planned m f plan n) where
   -- where no line is left it is the plan of all
   pub planned_end : lines_from f n ≡ [] → lines_plan m (report_lines f) ≡ needed plan
-  unfolding lines_plan plan_of total any report_lines
+  unfolding lines_plan plan_of total any
   planned_end e =
       let z : places m f n ≡ [] = ap (map (place_of m)) e in
       rw (w.sound ∙ ap (any is_damaged) z, w.terms, w.blocks, z) (rw (add-zero plan.terms, add-zero plan.blocks))
 
-  module _ (at : ℕ) (more : lines_from f n ≡ line_at f at ∷ lines_from f (n + 1)) where
-    here : places m f n ≡ place_of m (line_at f at) ∷ places m f (n + 1)
+  module _ {l : Line} (more : lines_from f n ≡ l ∷ lines_from f (n + 1)) where
+    here : places m f n ≡ place_of m l ∷ places m f (n + 1)
     here = ap (map (place_of m)) more
 
     -- a damaged line decides
-    pub planned_stop : {r : Refusal} → place_of m (line_at f at) ≡ Err r → (r ≡ Damaged) × ((lines_plan m (report_lines f)).damaged ≡ true)
-    unfolding lines_plan plan_of report_lines any is_damaged
-    planned_stop e = (place_damage m (line_at f at) e, w.sound ∙ rw (here, e))
+    pub planned_stop : {r : Refusal} → place_of m l ≡ Err r → (r ≡ Damaged) × ((lines_plan m (report_lines f)).damaged ≡ true)
+    unfolding lines_plan plan_of any is_damaged
+    planned_stop e = (place_damage m l e, w.sound ∙ rw (here, e))
 
-    pub planned_more : {p : Place} → place_of m (line_at f at) ≡ Ok p → Planned m f (with_place plan p) (n + 1)
+    pub planned_more : {p : Place} → place_of m l ≡ Ok p → Planned m f (with_place plan p) (n + 1)
     unfolding with_place total any is_damaged
     planned_more {p} e =
         record {

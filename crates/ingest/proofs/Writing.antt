@@ -3,32 +3,29 @@
 use mathlib.Core.Path.{◌≡◌, refl, sym, ap, ◌∙◌}
 use mathlib.Core.Bool.{Bool, true, false, cond}
 use mathlib.Core.List.{List, [], ◌∷◌}
-use Prim.Native.Nat.{ℕ, ◌+◌, ◌≤◌, ◌<◌}
+use Prim.Native.Nat.{ℕ, ◌+◌, ◌≤◌}
 use native.Mathlib.Nat.{add-zero}
 use native.Mathlib.Omega.{arith}
 use borrow.Author.Tests.{eq-eqb, ne_eqb}
 use lib.Dec.{eqb}
 use lib.ListN.{length}
-use Rattle.std.specs.Prelude.{Result, Ok, Err}
+use Rattle.std.specs.Prelude.{Ok, Err}
 use Rattle.basics.specs.Lists.{any}
 use Rattle.basics.proofs.Cases.{by-eq}
 use Rattle.frames.specs.Refusals.{first_of}
-use Rattle.frames.specs.Frames.{Line, line_at, report_lines}
-use Rattle.blocks.specs.Fields.{max_word, capacity}
+use Rattle.frames.specs.Frames.{Line, report_lines}
+use Rattle.blocks.specs.Fields.{max_word}
 use Rattle.blocks.proofs.Capacity.{capacity_as}
 use Rattle.blocks.proofs.Writes.{length-open_head, length-add_to, length-join_to}
 use Rattle.refusals.specs.declared.Refusal.{Refusal}
-use Rattle.lookup.specs.declared.Found.{Found}
-use Rattle.lookup.specs.declared.Found.TheVariants.{At, Unknown}
-use Rattle.lookup.specs.Lookup.{search as sought}
 use Rattle.lookup.proofs.Search.{length-enter}
-use Rattle.counters.specs.Counters.{Memory, max_terms}
+use Rattle.counters.specs.Counters.{Memory}
 use Rattle.counters.proofs.Laws.{max_terms_as, Right}
 use Rattle.ingest.specs.declared.Place.TheVariants.{New, Stays, Spills}
-use Rattle.ingest.specs.Report.{next_number, place_at, placed, place_of, Placed, is_damaged, terms_for, blocks_for, total, plan_of, plan_rows, lines_plan, written, Writing, wrote_as, write_lines}
+use Rattle.ingest.specs.Report.{next_number, place_of, Placed, is_damaged, terms_for, blocks_for, total, plan_of, plan_rows, lines_plan, written, Writing, wrote_as, write_lines}
 use Rattle.ingest.specs.Needs.{Held, write_one}
-use Rattle.ingest.proofs.Standing.{lines_from, lines_whole}
-use Rattle.ingest.proofs.Plans.{plan_damaged, plan_blocks, plan_none, passed}
+use Rattle.ingest.proofs.Standing.{lines_from}
+use Rattle.ingest.proofs.Plans.{passed}
 
 abbrev pub HeldIn : Memory → Type 0
 HeldIn m = Held m.arena m.table m.counters
@@ -93,59 +90,19 @@ module _ (m : Memory) (n : ℕ) (l : Line) where
 
 -- ---- one line, judged on its own
 
-module _ (m : Memory) (n : ℕ) (l : Line) where
-  module _ (p : Placed) where
-    pub one_written : first_of (plan_rows m (plan_of (p ∷ []))) ≡ 0 → write_one m n l p ≡ wrote_as (written m n l p) false
-    unfolding write_one
-    one_written e = rw (eq-eqb (first_of (plan_rows m (plan_of (p ∷ [])))) 0 e)
+-- a damaged one stops
+pub one_damaged : (m : Memory) (n : ℕ) (l : Line) (r : Refusal) → write_one m n l (Err r) ≡ wrote_as m true
+unfolding write_one plan_rows first_of plan_of any is_damaged
+one_damaged m n l r = refl
 
-    pub one-stops : (first_of (plan_rows m (plan_of (p ∷ []))) ≡ 0 → ⊥) → write_one m n l p ≡ wrote_as m true
-    unfolding write_one
-    one-stops e = rw (ne_eqb (first_of (plan_rows m (plan_of (p ∷ [])))) 0 e)
-
-    -- what it keeps where it is written, it keeps
-    pub one-keeps : (P : Memory → Type 0) → P m → (first_of (plan_rows m (plan_of (p ∷ []))) ≡ 0 → P (written m n l p)) → P (write_one m n l p).left
-    one-keeps P h on =
-        by-eq (first_of (plan_rows m (plan_of (p ∷ [])))) 0 (λ e. rw (one_written e) (on e)) (λ e. rw (one-stops e) h)
-
-  -- by its place
-  pub one-damaged : (r : Refusal) → write_one m n l (Err r) ≡ wrote_as m true
-  unfolding plan_of any is_damaged
-  one-damaged r = one-stops (Err r) (λ z. absurd (omega (arith, plan_damaged m (plan_of (Err r ∷ [])) refl)))
-
-  -- a known term's brings no term more, so that the terms held stay few enough
-  module _ (few : m.counters.terms ≤ max_terms m.table) (h : ℕ) where
-    pub one-stays : write_one m n l (Ok (Stays h)) ≡ wrote_as (written m n l (Ok (Stays h))) false
-    unfolding plan_of any is_damaged total terms_for blocks_for
-    one-stays = one_written (Ok (Stays h)) (plan_none m (plan_of (Ok (Stays h) ∷ [])) refl (omega arith) (omega arith))
-
-    -- no block is left
-    pub one-full : capacity m.arena ≡ m.counters.used → write_one m n l (Ok (Spills h)) ≡ wrote_as m true
-    unfolding plan_of any is_damaged total terms_for blocks_for
-    one-full e =
-        one-stops (Ok (Spills h)) (λ z. absurd (omega (arith, plan_blocks m (plan_of (Ok (Spills h) ∷ [])) refl (omega arith) (omega arith))))
-
-    pub one_spills : m.counters.used < capacity m.arena → write_one m n l (Ok (Spills h)) ≡ wrote_as (written m n l (Ok (Spills h))) false
-    unfolding plan_of any is_damaged total terms_for blocks_for
-    one_spills u = one_written (Ok (Spills h)) (plan_none m (plan_of (Ok (Spills h) ∷ [])) refl (omega arith) (omega arith))
-
--- a line goes where the search for its term leads, that of a known term where its head says
-module _ (m : Memory) (l : Line) where
-  pub sought_place : (x : Result Found Refusal) → sought m.arena m.counters.used m.table l.term ≡ x → place_of m l ≡ placed m.arena m.counters l.count x
-  unfolding place_of
-  sought_place x e = rw e
-
-  pub known_place : (h : ℕ) → sought m.arena m.counters.used m.table l.term ≡ Ok (At h) → place_of m l ≡ place_at m.arena m.counters l.count h
-  unfolding placed
-  known_place h e = sought_place (Ok (At h)) e
-
-  pub new_place : (s : ℕ) → sought m.arena m.counters.used m.table l.term ≡ Ok (Unknown s) → place_of m l ≡ Ok (New s)
-  unfolding placed
-  new_place s e = sought_place (Ok (Unknown s)) e
-
-  pub refused_place : (r : Refusal) → sought m.arena m.counters.used m.table l.term ≡ Err r → place_of m l ≡ Err r
-  unfolding placed
-  refused_place r e = sought_place (Err r) e
+-- what it keeps where it is written, it keeps
+module _ (m : Memory) (n : ℕ) (l : Line) (p : Placed) where
+  pub one-keeps : (P : Memory → Type 0) → P m → (first_of (plan_rows m (plan_of (p ∷ []))) ≡ 0 → P (written m n l p)) → P (write_one m n l p).left
+  unfolding write_one
+  one-keeps P h on =
+      by-eq (first_of (plan_rows m (plan_of (p ∷ [])))) 0
+      (λ e. rw (eq-eqb (first_of (plan_rows m (plan_of (p ∷ [])))) 0 e) (on e))
+      (λ e. rw (ne_eqb (first_of (plan_rows m (plan_of (p ∷ [])))) 0 e) h)
 
 -- ---- one line after another
 
@@ -190,14 +147,11 @@ module _ (n : ℕ) where
 -- the memory m that the first n lines of f made of m₀
 pub record Wrote (m₀ : Memory) (f : List ℕ) (m : Memory) (n : ℕ) : Type 0 where
   pub held : HeldIn m
-  pub arena : length m.arena ≡ length m₀.arena
-  pub table : length m.table ≡ length m₀.table
   pub reports : m.counters.reports ≡ m₀.counters.reports
   pub rest : write_lines m₀ (next_number m₀.counters) (report_lines f) ≡ write_lines m (next_number m₀.counters) (lines_from f n)
 
 pub wrote_none : (m : Memory) (f : List ℕ) → HeldIn m → Wrote m f m 0
-wrote_none m f h =
-    record { held = h; arena = refl; table = refl; reports = refl; rest = ap (write_lines m (next_number m.counters)) (sym (lines_whole f)) }
+wrote_none m f h = record { held = h; reports = refl; rest = refl }
 
 module _ {m₀ : Memory} {f : List ℕ} {m : Memory} {n : ℕ} (w : Wrote m₀ f m n) where
   -- where no line is left all are written
@@ -205,14 +159,13 @@ module _ {m₀ : Memory} {f : List ℕ} {m : Memory} {n : ℕ} (w : Wrote m₀ f
   wrote_end e = sym (w.rest ∙ rw e (write_none (next_number m₀.counters) m))
 
   -- the line there, and what it leaves
-  module _ (at : ℕ) (more : lines_from f n ≡ line_at f at ∷ lines_from f (n + 1)) {x : Memory} {b : Bool} {l : Line} (i : l ≡ line_at f at)
+  module _ {l : Line} (more : lines_from f n ≡ l ∷ lines_from f (n + 1)) {x : Memory} {b : Bool}
       (q : wrote_as x b ≡ write_one m (next_number m.counters) l (place_of m l)) where
-    left_is : wrote_as x b ≡ write_one m (next_number m₀.counters) (line_at f at) (place_of m (line_at f at))
-    left_is = rw i at (q ∙ ap (λ (r : ℕ). write_one m (r + 1) l (place_of m l)) w.reports)
+    left_is : wrote_as x b ≡ write_one m (next_number m₀.counters) l (place_of m l)
+    left_is = q ∙ ap (λ (r : ℕ). write_one m (r + 1) l (place_of m l)) w.reports
 
     rest-is : write_lines m₀ (next_number m₀.counters) (report_lines f) ≡ cond b (wrote_as x b) (write_lines x (next_number m₀.counters) (lines_from f (n + 1)))
-    rest-is =
-        w.rest ∙ rw (more, write_more (next_number m₀.counters) m (line_at f at) (lines_from f (n + 1)), ← left_is)
+    rest-is = w.rest ∙ rw (more, write_more (next_number m₀.counters) m l (lines_from f (n + 1)), ← left_is)
 
     -- where it stops, nothing else is written
     pub wrote_stop : b ≡ true → wrote_as x b ≡ write_lines m₀ (next_number m₀.counters) (report_lines f)
@@ -222,13 +175,10 @@ module _ {m₀ : Memory} {f : List ℕ} {m : Memory} {n : ℕ} (w : Wrote m₀ f
     pub wrote_more : b ≡ false → Wrote m₀ f x (n + 1)
     wrote_more e =
         let k = next_number m₀.counters in
-        let a = line_at f at in
-        let p = place_of m a in
-        let left : x ≡ (write_one m k a p).left = ap (λ (v : Writing). v.left) left_is in
+        let p = place_of m l in
+        let left : x ≡ (write_one m k l p).left = ap (λ (v : Writing). v.left) left_is in
         rw left record {
-          held = one-keeps m k a p HeldIn w.held (written_held m k a p w.held);
-          arena = one-keeps m k a p (λ y. length y.arena ≡ length m₀.arena) w.arena (λ z. written-arena m k a p ∙ w.arena);
-          table = one-keeps m k a p (λ y. length y.table ≡ length m₀.table) w.table (λ z. written-table m k a p ∙ w.table);
-          reports = one-keeps m k a p (λ y. y.counters.reports ≡ m₀.counters.reports) w.reports (λ z. written-reports m k a p ∙ w.reports);
+          held = one-keeps m k l p HeldIn w.held (written_held m k l p w.held);
+          reports = one-keeps m k l p (λ y. y.counters.reports ≡ m₀.counters.reports) w.reports (λ z. written-reports m k l p ∙ w.reports);
           rest = rest-is ∙ rw (e, left);
         }

@@ -1,3 +1,2 @@
 pub mod Report
-pub mod Kept
 pub mod Needs

@@ -1,7 +1,7 @@
 // Taking a report: all lines are judged before a byte is written.
 #![tactic(auto)]
 
-ghost use Rattle.std.specs.Prelude.{◌≡◌, List, ℕ, Ok, OnOk, OnErr, IfOk, ◌+◌, ◌-◌, ◌≤◌, ◌<◌, length, get_or};
+ghost use Rattle.std.specs.Prelude.{◌≡◌, List, ℕ, Ok, OnErr, IfOk, ◌+◌, ◌-◌, ◌≤◌, ◌<◌, length, get_or};
 ghost use Rattle.terms.specs.Terms.{max_term, fnv1a};
 ghost use Rattle.frames.specs.Frames.{max_body, lines, report_lines};
 ghost use Rattle.frames.specs.Refusals.{first_of};
@@ -10,7 +10,6 @@ ghost use Rattle.lookup.specs.Lookup.{slots, search};
 ghost use Rattle.counters.specs.Counters.{memory, max_terms};
 ghost use Rattle.refusals.specs.Numbers.{number_of, refused_under};
 ghost use Rattle.ingest.specs.Report.{line_of, damaged_head, place_at, placed, place_of, plan_rows, lines_plan, write_lines, call_refusal, report_call, taken_of};
-ghost use Rattle.ingest.specs.Kept.{Kept, mark_tail, marking, KeptRight};
 ghost use Rattle.ingest.specs.Needs.{Room, HeadIs, Below, Held, with_place, needed, Plans, write_one, wrote, refused_with};
 ghost use Rattle.ingest.specs.declared.Place.TheVariants.{New};
 
@@ -55,18 +54,6 @@ pub struct Plan {
 pub struct Stopped {
     pub left: Counters,
 }
-
-// A line at its turn, and the entry that is kept for it, 0 for none.
-#[derive(Clone, Copy)]
-struct Turn<'a> {
-    line: Line<'a>,
-    kept: u32,
-}
-
-// Which blocks a posting was put into as tails. A mark serves many blocks, so that a fixed number of them is enough.
-const MARKS: usize = 1024;
-
-type Marks = [bool; MARKS];
 
 // ---- where a line goes
 
@@ -167,30 +154,20 @@ impl Plan {
 }
 
 // The places of all lines on the memory as it is. The first slots of all lines, and then the heads that they lead to,
-// are asked for before the first is compared: their loads miss the caches, and so they overlap. `kept` first has the
-// entries of these slots; an entry stays there for its line's turn where the term was found right there, else it
-// becomes 0, which stands for none as it does in the table.
-fn plan_lines(
-    arena: Arena,
-    table: &[u32],
-    lines: Lines,
-    kept: &mut [u32; MAX_LINES],
-) -> Result<Plan, Refusal>
-    ensures plan { let m = memory arena.entry.bytes.now table.now arena.entry.k in
+// are asked for before the first is compared: their loads miss the caches, and so they overlap.
+fn plan_lines(arena: Arena, table: &[u32], lines: Lines) -> Result<Plan, Refusal>
+    ensures { let m = memory arena.entry.bytes.now table.now arena.entry.k in
         Plans (lines_plan m (report_lines lines.entry.frame.now)) result }
-    ensures kept { let m = memory arena.entry.bytes.now table.now arena.entry.k in
-        OnOk result (Kept m lines.entry.frame.now kept.new) }
 {
     let used = arena.used();
+    let mut entries = [0u32; MAX_LINES];
     let mut lengths = [0u8; MAX_LINES];
-    lookup::first_entries(table, lines.hashes, kept);
-    lookup::first_lengths(used, &kept[..lines.hashes.len()], &mut lengths);
+    lookup::first_entries(table, lines.hashes, &mut entries);
+    lookup::first_lengths(used, &entries[..lines.hashes.len()], &mut lengths);
     let mut plan = Plan::default();
     for (n, line) in lines.iter().enumerate() {
-        let entry = kept[n];
-        let found = lookup::find_from(used, table, line.name, entry, lengths[n]);
-        kept[n] = lookup::first_hit(found, entry);
-        plan = plan.with(arena.place_found(found?, line.count)?);
+        let found = lookup::find_from(used, table, line.name, entries[n], lengths[n])?;
+        plan = plan.with(arena.place_found(found, line.count)?);
     }
     Ok(plan)
 }
@@ -214,32 +191,15 @@ fn has_room(lent: Lent, plan: Plan) -> Result<(), Refusal>
 
 // ---- writing
 
-// Marks a tail that a posting was put into, unless it is the chain's head: in a damaged arena it may be another term's
-// head, which may now hold another name.
-#[tactic(auto, unfolding(crate::specs::Kept::mark_tail))]
-fn mark_tail(marks: &mut Marks, h: u32, tail: u32)
-    ensures { marks.new ≡ mark_tail marks.old h tail }
-{
-    if tail != h {
-        marks[tail as usize % MARKS] = true;
-    }
-}
-
 // A line of a known term, judged afresh: its posting goes into the tail, or where it does not fit there into the next
 // block. The head that is judged is the one that is written to, so it is read once. Table and term have no part in
 // this.
-fn append_line(
-    arena: &mut [u8],
-    k: Counters,
-    h: u32,
-    count: u32,
-    marks: &mut Marks,
-) -> Result<Counters, Stopped>
+#[tactic(auto, using(std::proofs::lemmas::Bool::Decides::nat_tests), unfolding(crate::specs::Needs::write_one, frames::specs::Refusals::first_of, crate::specs::Report::plan_rows, crate::specs::Report::plan_of, crate::specs::Report::total, basics::specs::Lists::any, crate::specs::Report::is_damaged, crate::specs::Report::terms_for, crate::specs::Report::blocks_for, crate::specs::Report::written, crate::specs::Report::place_at))]
+fn append_line(arena: &mut [u8], k: Counters, h: u32, count: u32) -> Result<Counters, Stopped>
     requires { Room arena.old k × (h < k.used) }
-    ensures line { (t w : List ℕ) → k.terms ≤ max_terms t
+    ensures { (t w : List ℕ) → k.terms ≤ max_terms t
         → wrote arena.new t result
         ≡ write_one (memory arena.old t k) (k.reports + 1) (line_of w count) (place_at arena.old k count h) }
-    ensures marked { marks.new ≡ marking arena.old marks.old (place_at arena.old k count h) }
 {
     let number = k.reports + 1;
     let read = Arena { bytes: arena, k };
@@ -248,21 +208,19 @@ fn append_line(
     };
     if blocks::fits_in(d, number, count) {
         blocks::add_to(arena, h, d, number, count);
-        mark_tail(marks, h, d.tail);
         return Ok(k);
     }
     if blocks::capacity_of(arena) == k.used {
         return Err(Stopped { left: k });
     }
     blocks::join_to(arena, h, d, k.used, number, count);
-    Ok(Counters {
-        used: k.used + 1,
-        ..k
-    })
+    let used = k.used + 1;
+    Ok(Counters { used, ..k })
 }
 
 // A line of a new term, judged afresh: its head, entered into the empty slot met. Where the table has no slot none was
 // met, and no term may be held.
+#[tactic(auto, using(std::proofs::lemmas::Bool::Decides::nat_tests), unfolding(crate::specs::Needs::write_one, frames::specs::Refusals::first_of, crate::specs::Report::plan_rows, crate::specs::Report::plan_of, crate::specs::Report::total, basics::specs::Lists::any, crate::specs::Report::is_damaged, crate::specs::Report::terms_for, crate::specs::Report::blocks_for, crate::specs::Report::written))]
 fn open_line(
     arena: &mut [u8],
     table: &mut [u32],
@@ -286,41 +244,23 @@ fn open_line(
     })
 }
 
-// Looks a line's term up again at its turn. The head that a kept entry leads to still holds the term unless it is
-// marked, so that the search is left out there.
-fn find_again(used: Used, table: &[u32], turn: Turn, marks: &Marks) -> Result<Found, Refusal>
-    requires { KeptRight used.arena.now used.blocks table.now turn.line.name.bytes.now turn.kept marks.now }
-    ensures { result ≡ search used.entry.arena.now used.entry.blocks table.now turn.entry.line.name.bytes.now }
-{
-    if 0 < turn.kept {
-        let h = turn.kept - 1;
-        if !marks[h as usize % MARKS] {
-            return Ok(Found::At(h));
-        }
-    }
-    lookup::find(used, table, turn.line.name)
-}
-
-// One line, judged afresh when its turn comes.
+// One line, looked up and judged afresh when its turn comes.
+#[tactic(auto, using(crate::proofs::Writing::one_damaged), unfolding(crate::specs::Report::place_of, crate::specs::Report::placed))]
 fn write_line(
     arena: &mut [u8],
     table: &mut [u32],
     k: Counters,
-    turn: Turn,
-    marks: &mut Marks,
+    line: Line,
 ) -> Result<Counters, Stopped>
-    requires { Held arena.old table.old k × KeptRight arena.old k.used table.old turn.line.name.bytes.now turn.kept marks.old }
-    ensures line { let m = memory arena.old table.old k in
-        let l = line_of turn.entry.line.name.bytes.now turn.entry.line.count in
+    requires { Held arena.old table.old k }
+    ensures { let m = memory arena.old table.old k in
+        let l = line_of line.entry.name.bytes.now line.entry.count in
         wrote arena.new table.new result ≡ write_one m (k.reports + 1) l (place_of m l) }
-    ensures marked { let m = memory arena.old table.old k in
-        let l = line_of turn.entry.line.name.bytes.now turn.entry.line.count in
-        marks.new ≡ marking arena.old marks.old (place_of m l) }
 {
     let read = Arena { bytes: arena, k };
-    match find_again(read.used(), table, turn, marks) {
-        Ok(Found::Unknown(slot)) => open_line(arena, table, k, turn.line, slot),
-        Ok(Found::At(h)) => append_line(arena, k, h, turn.line.count, marks),
+    match lookup::find(read.used(), table, line.name) {
+        Ok(Found::Unknown(slot)) => open_line(arena, table, k, line, slot),
+        Ok(Found::At(h)) => append_line(arena, k, h, line.count),
         Err(_) => Err(Stopped { left: k }),
     }
 }
@@ -331,29 +271,24 @@ fn write_lines(
     table: &mut [u32],
     k: Counters,
     lines: Lines,
-    kept: &[u32; MAX_LINES],
 ) -> Result<Counters, Stopped>
-    requires { Held arena.old table.old k × Kept (memory arena.old table.old k) lines.frame.now kept.now }
+    requires { Held arena.old table.old k }
     ensures { wrote arena.new table.new result
         ≡ write_lines (memory arena.old table.old k) (k.reports + 1) (report_lines lines.entry.frame.now) }
 {
-    let mut marks = [false; MARKS];
     let mut left = k;
-    for (line, kept) in lines.iter().zip(kept) {
-        let turn = Turn { line, kept: *kept };
-        left = write_line(arena, table, left, turn, &mut marks)?;
+    for line in lines.iter() {
+        left = write_line(arena, table, left, line)?;
     }
     Ok(left)
 }
 
 // ---- the call
 
-// Refusals 9 to 12 of a sound frame, past refusal 8. Where none holds, what its lines keep is in `kept`.
-fn judge_report(lent: Lent, lines: Lines, kept: &mut [u32; MAX_LINES]) -> Result<(), Refusal>
-    ensures refused { let m = memory lent.entry.arena.now lent.entry.table.now lent.entry.counters in
+// Refusals 9 to 12 of a sound frame, past refusal 8.
+fn judge_report(lent: Lent, lines: Lines) -> Result<(), Refusal>
+    ensures { let m = memory lent.entry.arena.now lent.entry.table.now lent.entry.counters in
         refused_under result ≡ call_refusal m lines.entry.frame.now }
-    ensures kept { let m = memory lent.entry.arena.now lent.entry.table.now lent.entry.counters in
-        OnOk result (Kept m lines.entry.frame.now kept.new) }
 {
     if lent.counters.reports == u32::MAX {
         return Err(Refusal::NumbersSpent);
@@ -362,7 +297,7 @@ fn judge_report(lent: Lent, lines: Lines, kept: &mut [u32; MAX_LINES]) -> Result
         bytes: lent.arena,
         k: lent.counters,
     };
-    let plan = plan_lines(arena, lent.table, lines, kept)?;
+    let plan = plan_lines(arena, lent.table, lines)?;
     has_room(lent, plan)
 }
 
@@ -379,11 +314,10 @@ fn judge_and_write(
 {
     let mut names = [0u8; MAX_FRAME];
     let mut hashes = [0u32; MAX_LINES];
-    let mut kept = [0u32; MAX_LINES];
     let lines = Lines::read(frame, &mut names, &mut hashes)?;
     let lent = Lent::new(arena, table, k)?;
-    judge_report(lent, lines, &mut kept)?;
-    Ok(write_lines(arena, table, k, lines, &kept))
+    judge_report(lent, lines)?;
+    Ok(write_lines(arena, table, k, lines))
 }
 
 fn refused(refusal: Refusal, k: Counters) -> Taken

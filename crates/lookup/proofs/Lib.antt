@@ -1,4 +1,3 @@
-pub mod Filled
 pub mod Names
 pub mod Search
 pub mod Table

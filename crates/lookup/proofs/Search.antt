@@ -12,7 +12,6 @@ use Rattle.std.proofs.lemmas.Bool.Decides.{nat_tests}
 use borrow.Author.Tests.{lt-ltb, le-ltb, eq-eqb, ne_eqb}
 use lib.Dec.{ltb, eqb}
 use lib.ListN.{length, get_or, get_or-append, length-append, length-set}
-use lib.Seq.{get_or-set_other}
 use Rattle.std.specs.List.{range_with_len}
 use Rattle.std.specs.declared.iter.Chain.{Chain}
 use Rattle.std.specs.declared.ops.Range.{Range}
@@ -29,7 +28,7 @@ use Rattle.terms.specs.Terms.{fnv1a}
 use Rattle.blocks.specs.Fields.{name_of}
 use Rattle.refusals.specs.declared.Refusal.{Refusal}
 use Rattle.refusals.specs.declared.Refusal.TheVariants.{Damaged}
-use Rattle.lookup.specs.Lookup.{slots, next_slot, search_from, search, enter, first_entry, first_hit}
+use Rattle.lookup.specs.Lookup.{slots, next_slot, search_from, search, enter, first_entry}
 use Rattle.lookup.specs.declared.Found.{Found}
 use Rattle.lookup.specs.declared.Found.TheVariants.{At, Unknown}
 
@@ -140,11 +139,6 @@ module _ (table : List ℕ) (hash : ℕ) where
   pub first_some : 0 < slots table → first_entry table hash ≡ get_or table (hash % slots table) 0
   unfolding first_entry
   first_some h = rw (ne_eqb (slots table) 0 (λ e. omega arith))
-
--- entering a term into an empty slot leaves an entry that is there
-pub first-enter : (table : List ℕ) (hash s b : ℕ) → get_or table s 0 ≡ 0 → 0 < first_entry table hash → first_entry (enter table s b) hash ≡ first_entry table hash
-unfolding enter slots first_entry
-first-enter table hash s b z h = grind (arith, nat_tests, length-set, get_or-set_other)
 
 -- ---- a search from a slot on
 
@@ -266,18 +260,6 @@ module _ (a : List ℕ) (used : ℕ) (table w : List ℕ) where
       let here = from_some a used table w (slots table) (fnv1a w % slots table) some in
       let begin = search-some some in
       grind (arith, nat_tests)
-
-  -- a search that ended at its first entry: what it found
-  pub hit_found : (e : ℕ) → e ≡ first_hit (search a used table w) (first_entry table (fnv1a w)) → 0 < e → (search a used table w ≡ Ok (At (e - 1))) × (e ≡ first_entry table (fnv1a w))
-  unfolding first_hit
-  hit_found e p h = go (search a used table w) refl p
-    where
-      go : (x : Result Found Refusal) → search a used table w ≡ x → e ≡ first_hit x (first_entry table (fnv1a w)) → (search a used table w ≡ Ok (At (e - 1))) × (e ≡ first_entry table (fnv1a w))
-      go (Ok (At b)) q p =
-          let z : b ≡ e - 1 = grind (arith, nat_tests) in
-          (rw (← z) q, grind (arith, nat_tests))
-      go (Ok (Unknown s)) q p = absurd (omega arith)
-      go (Err r) q p = absurd (omega arith)
 
 -- what the turns of a search take
 pub ruleset searching = (nat_tests, slots_le, from_some, from-none, search-none, search-some)

@@ -72,12 +72,6 @@ first_entry table hash = cond (eqb (slots table) 0) 0 (get_or table (hash % slot
 unfoldable pub length_behind : List ℕ → ℕ → ℕ → ℕ
 length_behind a used e = cond (ltb 0 e && leb e used) (get_or a (place (e - 1) + 17) 0) 0
 
--- the first entry of a search that ended with a match there; 0 of any other
-unfoldable pub first_hit : Result Found Refusal → ℕ → ℕ
-first_hit (Ok (At b)) e = cond (eqb (b + 1) e) e 0
-first_hit (Ok (Unknown s)) e = 0
-first_hit (Err r) e = 0
-
 -- the first entries are those of the hashes
 pub record Entries (table hashes entries : List ℕ) : Type 0 where
   pub each : (i : ℕ) → i < length hashes → get_or entries i 0 ≡ first_entry table (get_or hashes i 0)

@@ -5,7 +5,7 @@ ghost use Rattle.std.specs.Prelude.{◌≡◌, ◌+◌, ◌≤◌, ◌<◌, leng
 ghost use Rattle.basics.specs.Lists.{same};
 ghost use Rattle.terms.specs.Terms.{max_term, folded};
 ghost use Rattle.blocks.specs.Fields.{max_word, block_size, place, name_of};
-ghost use Rattle.lookup.specs.Lookup.{slots, search, enter, first_entry, length_behind, first_hit, Entries, Lengths};
+ghost use Rattle.lookup.specs.Lookup.{slots, search, enter, first_entry, length_behind, Entries, Lengths};
 
 use blocks::Used;
 use refusals::Refusal;
@@ -134,17 +134,6 @@ pub fn find_from(
         }
     }
     find(used, table, name)
-}
-
-// The first entry of a search that ended with a match there; 0 of any other.
-#[tactic(auto, using(std::proofs::lemmas::Bool::Decides::nat_tests), unfolding(crate::specs::Lookup::first_hit))]
-pub fn first_hit(found: Result<Found, Refusal>, entry: u32) -> u32
-    ensures { result ≡ first_hit found entry }
-{
-    match found {
-        Ok(Found::At(b)) if 0 < entry && entry - 1 == b => entry,
-        _ => 0,
-    }
 }
 
 // Puts a new term's head into the empty slot met.

@@ -24,7 +24,5 @@ returns-in_err-lent-clause-refused c =
 pub write_lines-requires : goal.write_lines-requires
 write_lines-requires c =
     let m = memory c.args.arena.now c.args.table.now c.args.k in
-    let f = c.in_ok-lines.lines.frame.now in
-    let r = rw c.in_ok-lent.ensures.lent at c.in_ok-judge_report.ensures in
-    let j = judged m f (sym r.refused) in
-    (held_right m j.counters j.numbered (omega arith), r.kept)
+    let j = judged m c.in_ok-lines.lines.frame.now (sym (rw c.in_ok-lent.ensures.lent at c.in_ok-judge_report.ensures)) in
+    held_right m j.counters j.numbered (omega arith)
