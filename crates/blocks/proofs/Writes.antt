@@ -1,25 +1,23 @@
 -- Laws of the bytes that are written into blocks.
 -- Assumes nothing.
-use mathlib.Core.Path.{◌≡◌, sym, ◌∙◌, ap}
+use mathlib.Core.Path.{◌≡◌, ◌∙◌, ap}
 use mathlib.Core.Bool.{true}
 use mathlib.Core.List.{List, [], ◌∷◌, ◌++◌, append_assoc}
-use Prim.Native.Nat.{ℕ, ◌+◌, ◌-◌, ◌≤◌, ◌<◌}
+use Prim.Native.Nat.{ℕ, ◌+◌, ◌-◌, ◌≤◌}
 use native.Mathlib.Omega.{arith}
 use borrow.Author.Tests.{leb-true}
 use Rattle.std.proofs.lemmas.Bool.Decides.{nat_tests}
 use Rattle.postings.proofs.Laws.{length-code_le}
-use lib.ListN.{length, get_or, replicate, length-append, length-replicate}
+use lib.ListN.{length, replicate, length-append, length-replicate}
 use lib.Seq.{sets, length-sets}
 use Rattle.basics.specs.Words.{word}
-use Rattle.basics.proofs.Cases.{by-lt, by-eq}
 use Rattle.basics.proofs.Lists.{drop-replicate}
 use Rattle.basics.proofs.Stores.{sets_behind, sets_comm, sets_over}
-use Rattle.basics.proofs.Words.{length-word, word_again}
+use Rattle.basics.proofs.Words.{length-word}
 use Rattle.postings.specs.Coding.{code}
 use Rattle.blocks.specs.declared.Head.{Head}
-use Rattle.blocks.specs.Fields.{block_size, head_fixed, link_size, place, link_of, head_of}
-use Rattle.blocks.proofs.Fields.{part_own, part_other}
-use Rattle.blocks.specs.Writes.{padded, growing, changing, head_bytes, open_head, fits, add_to, join_to, InTail}
+use Rattle.blocks.specs.Fields.{block_size, head_fixed, link_size, place, link_of}
+use Rattle.blocks.specs.Writes.{padded, growing, changing, head_bytes, open_head, fits, add_to, join_to}
 
 -- ---- a cleared block
 
@@ -108,33 +106,6 @@ join_stored a h d b n f l =
 pub fits-room : (d : Head) (n f : ℕ) → fits d n f ≡ true → d.end + length (code (n - d.last) f) ≤ block_size
 unfolding fits
 fits-room d n f e = leb-true (d.end + length (code (n - d.last) f)) block_size e
-
--- the head's tail, stored again, leaves the arena as it is
-tail-kept : (a : List ℕ) (h : ℕ) (d : Head) → ((i : ℕ) → get_or a i 0 < 256) → d ≡ head_of a h → sets a (place h + 4) (word d.tail) ≡ a
-unfolding head_of
-tail-kept a h d byte e = rw e (word_again a (place h + 4) byte)
-
--- it is stored at the write offset, and then the head's fields but its tail, which is as it was: the posting stands behind it where the head
--- is the tail, and in another block where it is not
-pub add-stored : (a : List ℕ) (h : ℕ) (d : Head) (n f : ℕ) → ((i : ℕ) → get_or a i 0 < 256) → InTail a h d → fits d n f ≡ true
-    → sets (sets a (place d.tail + d.end) (code (n - d.last) f)) (place h + 8) (growing n (d.postings + 1) (d.end + length (code (n - d.last) f))) ≡ add_to a h d n f
-unfolding add_to
-add-stored a h d n f byte w e =
-    let c = code (n - d.last) f in
-    let q = place d.tail + d.end in
-    let t = word d.tail in
-    let lt : length t ≡ 4 = length-word d.tail in
-    let room = fits-room d n f e in
-    let kept : sets a (place h + 4) t ≡ a = tail-kept a h d byte w.stands in
-    let apart : sets (sets a q c) (place h + 4) t ≡ sets (sets a (place h + 4) t) q c
-    = by-eq d.tail h
-    (λ s. sets_comm a (place h + 4) t q c (omega (arith, w.behind, part_own d h d.tail s)))
-    (λ o.
-    let start = part_other d h d.tail o in
-    by-lt h d.tail
-    (λ l. sets_comm a (place h + 4) t q c (omega arith))
-    (λ g. sym (sets_comm a q c (place h + 4) t (omega arith)))) in
-    rw (← changing-stored (sets a q c) (place h) d.tail n (d.postings + 1) (d.end + length c), apart, kept)
 
 -- ---- the arena keeps its length
 

@@ -1,10 +1,10 @@
 -- Writing postings into blocks (document 01, "Blocks"; source document 001, algorithm 1).
-use Rattle.std.specs.Prelude.{◌≡◌, ℕ, ◌+◌, ◌-◌, ◌≤◌, ◌<◌, List, [], ◌∷◌, ◌++◌, Bool, cond, leb, length, replicate}
+use Rattle.std.specs.Prelude.{ℕ, ◌+◌, ◌-◌, ◌≤◌, ◌<◌, List, [], ◌∷◌, ◌++◌, Bool, cond, leb, length, replicate}
 use Rattle.std.proofs.lemmas.List.Edits.{sets}
 use Rattle.basics.specs.Words.{word}
 use Rattle.postings.specs.Coding.{code}
 use Rattle.blocks.specs.declared.Head.{Head}
-use Rattle.blocks.specs.Fields.{max_word, block_size, head_fixed, link_size, place, link_of, head_of, part_start}
+use Rattle.blocks.specs.Fields.{max_word, block_size, head_fixed, link_size, place, link_of, head_of}
 
 -- a block is cleared when taken
 unfoldable pub padded : List ℕ → List ℕ
@@ -36,8 +36,8 @@ fits d n f = leb (d.end + length (code (n - d.last) f)) block_size
 -- it goes to the write offset of the tail
 unfoldable pub add_to : List ℕ → ℕ → Head → ℕ → ℕ → List ℕ
 add_to a h d n f =
-    sets (sets a (place d.tail + d.end) (code (n - d.last) f)) (place h + 4)
-    (changing d.tail n (d.postings + 1) (d.end + length (code (n - d.last) f)))
+    let c = code (n - d.last) f in
+    sets (sets a (place d.tail + d.end) c) (place h + 8) (growing n (d.postings + 1) (d.end + length c))
 
 -- or block b becomes the tail, and its first posting carries a b-gap, counted from the first number of the block
 -- before; the block before now leads to b
@@ -58,9 +58,3 @@ pub record Appends (a : List ℕ) (h : ℕ) (d : Head) (n : ℕ) : Type 0 where
   pub inside : d.end ≤ block_size
   pub ascends : d.last < n
   pub countable : d.postings < max_word
-
--- and where it goes to the tail: d is the head as it stands in the arena, and the write offset lies in the tail's
--- postings part. So the posting misses the head's tail field, which is not written again
-pub record InTail (a : List ℕ) (h : ℕ) (d : Head) : Type 0 where
-  pub stands : d ≡ head_of a h
-  pub behind : part_start d h d.tail ≤ d.end

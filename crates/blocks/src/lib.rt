@@ -8,7 +8,7 @@ ghost use Rattle.postings.specs.Coding.{code};
 ghost use Rattle.terms.specs.Terms.{max_term};
 ghost use Rattle.blocks.specs.Fields.{block_size, capacity, place, link_of, head_of, part_start};
 ghost use Rattle.blocks.specs.Marked.{marked_right};
-ghost use Rattle.blocks.specs.Writes.{padded, growing, changing, open_head, fits, add_to, join_to, append, Appends, InTail};
+ghost use Rattle.blocks.specs.Writes.{padded, growing, changing, open_head, fits, add_to, join_to, append, Appends};
 
 mod used;
 
@@ -171,7 +171,7 @@ pub fn fits_in(d: Head, number: u32, count: u32) -> bool
 
 // A posting at the write offset of the tail. The tail stays, so that field of the head is not written again.
 pub fn add_to(arena: &mut [u8], h: u32, d: Head, number: u32, count: u32)
-    requires { Appends arena.old h d number × InTail arena.old h d × (fits d number count ≡ true) }
+    requires { Appends arena.old h d number × (fits d number count ≡ true) }
     ensures { arena.new ≡ add_to arena.old h d number count }
 {
     let end = put_next(arena, d.tail, d.end, DGap::between(d.last, number), count);
@@ -206,7 +206,7 @@ pub fn join_to(arena: &mut [u8], h: u32, d: Head, b: u32, number: u32, count: u3
 
 // One more posting of the term with head h: in its tail, or in block b where it does not fit. Says whether it fitted.
 pub fn append_posting(arena: &mut [u8], h: u32, b: u32, number: u32, count: u32) -> bool
-    requires { Appends arena.old h (head_of arena.old h) number × InTail arena.old h (head_of arena.old h) × (place b + block_size ≤ length arena.old) × (link_of arena.old (head_of arena.old h).tail < number) }
+    requires { Appends arena.old h (head_of arena.old h) number × (place b + block_size ≤ length arena.old) × (link_of arena.old (head_of arena.old h).tail < number) }
     ensures { (result ≡ fits (head_of arena.old h) number count) × (arena.new ≡ append arena.old h b number count) }
 {
     let d = head_of(arena, h);

@@ -14,7 +14,7 @@ use Rattle.terms.specs.Terms.{fnv1a}
 use Rattle.frames.specs.Frames.{Line}
 use Rattle.blocks.specs.declared.Head.{Head}
 use Rattle.blocks.specs.Fields.{link_of, head_of}
-use Rattle.blocks.specs.Writes.{Appends, InTail}
+use Rattle.blocks.specs.Writes.{Appends}
 use Rattle.blocks.proofs.Capacity.{block_inside}
 use Rattle.chains.specs.Chains.{bad_head}
 use Rattle.chains.proofs.Laws.{Good, head_good}
@@ -63,10 +63,6 @@ fine_appends a k h d r u w = record {
   ascends = omega (arith, w.last);
   countable = omega (arith, w.postings, r.numbered);
 }
-
--- where it stands, at the write offset of its tail
-pub fine_tail : (a : List ℕ) (k : Counters) (h : ℕ) {d : Head} → d ≡ head_of a h → Fine a k h d → InTail a h d
-fine_tail a k h e w = record { stands = e; behind = omega (arith, w.good.past) }
 
 -- ---- what a search finds
 

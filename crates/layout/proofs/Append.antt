@@ -14,7 +14,7 @@ use Rattle.basics.proofs.Cases.{by-eq}
 use Rattle.basics.proofs.Parts.{sets-whole, get_or-last}
 use Rattle.postings.proofs.Laws.{length-code_le}
 use Rattle.blocks.specs.Fields.{block_size, link_size, place, link_of, head_of}
-use Rattle.blocks.specs.Writes.{padded, changing, fits, add_to, join_to, append}
+use Rattle.blocks.specs.Writes.{padded, growing, changing, fits, add_to, join_to, append}
 use Rattle.blocks.specs.Prescribed.{Posting, Reach}
 use Rattle.blocks.proofs.Writes.{length-padded, length-add_to, length-join_to}
 use Rattle.chains.specs.Chains.{last_from}
@@ -23,12 +23,16 @@ use Rattle.layout.specs.Held.{Held, postings_of, block_no, head_no, tail_no, cha
 use Rattle.layout.specs.Index.{Index, term_at, owner_at, no_owner, used_of, Linked, block_at, Image, grown, with_posting_as, with_posting}
 use Rattle.layout.proofs.Held.{tail_at, nos-closed, fits-stays, head-stays, head-next}
 use Rattle.layout.proofs.Arena.{length_block, store_if, store_block, store_front}
-use Rattle.layout.proofs.Bytes.{fields, offset_in, bytes_in, bytes-grown, bytes_next}
+use Rattle.layout.proofs.Bytes.{fields_at, fields, offset_in, bytes_in, bytes-grown, bytes_next}
 use Rattle.layout.proofs.Linked.{joined_is, by-joined, mine, other}
 use Rattle.layout.proofs.Standing.{Standing, nos_pos, tail_lt, head-is, tail_link}
 use Rattle.layout.proofs.Image.{same_test, other_test, standing}
 
 -- ---- what is stored lies in a block
+
+growing_fits : (last postings end : ℕ) → 8 + length (growing last postings end) ≤ block_size
+unfolding word
+growing_fits last postings end = omega arith
 
 fields_fit : (tail last postings end : ℕ) → 4 + length (changing tail last postings end) ≤ block_size
 unfolding changing word
@@ -52,14 +56,14 @@ append-length a h b n f = go (fits (head_of a h) n f)
 
 module _ (a : List ℕ) (h : ℕ) (t : Held) (p : Posting) where
   add_block : stays (chain t).reach p ≡ true → (k : ℕ) → block_at (add_to a h (head_for t) p.number p.count) k
-      ≡ store_if (eqb k h) (store_if (eqb k (tail_no t)) (block_at a k) (head_for t).end (coded (d_entry (chain t).reach p))) 4
-      (changing (tail_no t) p.number ((head_for t).postings + 1) ((head_for t).end + length (coded (d_entry (chain t).reach p))))
+      ≡ store_if (eqb k h) (store_if (eqb k (tail_no t)) (block_at a k) (head_for t).end (coded (d_entry (chain t).reach p))) 8
+      (growing p.number ((head_for t).postings + 1) ((head_for t).end + length (coded (d_entry (chain t).reach p))))
   unfolding add_to head_for
   add_block e k =
       let r : Reach = (chain t).reach in
       let c : List ℕ = coded (d_entry r p) in
       let room : r.offset + length c ≤ block_size = unfold stays in leb-true _ _ e in
-      rw (store_block (sets a (place (tail_no t) + r.offset) c) h 4 _ k (fields_fit _ _ _ _), store_block a (tail_no t) r.offset c k room)
+      rw (store_block (sets a (place (tail_no t) + r.offset) c) h 8 _ k (growing_fits _ _ _), store_block a (tail_no t) r.offset c k room)
 
   module _ (used : ℕ) (first : link_of a (tail_no t) ≡ (chain t).reach.first) (small : length (coded (b_entry (chain t).reach p)) ≤ 10) where
     join_block : (k : ℕ) → block_at (join_to a h (head_for t) used p.number p.count) k
@@ -104,7 +108,7 @@ module _ (a : List ℕ) (used : ℕ) (t : Held) (p : Posting) (st : Standing a u
 
     -- the blocks in use
     writes_block : (b : Bool) → stays (chain t).reach p ≡ b → (k : ℕ) → k < used → block_at (writes b) k
-        ≡ store_if (eqb k (head_no t)) (store_if (eqb k (tail_no t)) (block_at a k) (offset_in b t) (bytes_in b used t p)) 4 (fields (head_for (grown b used t p)))
+        ≡ store_if (eqb k (head_no t)) (store_if (eqb k (tail_no t)) (block_at a k) (offset_in b t) (bytes_in b used t p)) (fields_at b) (fields b (head_for (grown b used t p)))
     writes_block true e k h = rw (head-stays used t p e) (add_block a (head_no t) t p e k)
     writes_block false e k h = rw (head-next used t p e, join_block a (head_no t) t p used (tail_link st) small k, ne_eqb k used (λ q. omega arith))
 

@@ -12,19 +12,24 @@ use Rattle.basics.specs.Words.{word}
 use Rattle.basics.proofs.Parts.{get_or-inside, get_or-snoc}
 use Rattle.blocks.specs.declared.Head.{Head}
 use Rattle.blocks.specs.Fields.{block_size}
-use Rattle.blocks.specs.Writes.{padded, changing, head_bytes}
+use Rattle.blocks.specs.Writes.{padded, growing, changing, head_bytes}
 use Rattle.blocks.specs.Prescribed.{Posting, opened}
 use Rattle.layout.specs.Chains.{Entry, coded, codes, Block, entries, Chain, d_entry, b_entry, begun, stays, puts, block_in}
 use Rattle.layout.specs.Held.{Held, chain, head_for, link_at, form, written, block_bytes}
 use Rattle.layout.specs.Index.{Sound, fresh, grown}
 use Rattle.layout.proofs.Chains.{codes-snoc, codes-one, onward-stays, onward-next}
-use Rattle.layout.proofs.Held.{tail_at, chain-holds, nos-closed, chain-grown}
+use Rattle.layout.proofs.Held.{tail_at, chain-holds, nos-closed, chain-grown, tail-stays}
 use Rattle.layout.proofs.Arena.{store_if}
-use Rattle.layout.proofs.Forms.{length-form, store_fields, store_link, store_code}
+use Rattle.layout.proofs.Forms.{length-form, store_growing, store_fields, store_link, store_code}
 
--- the changing fields of a head
-abbrev pub fields : Head → List ℕ
-fields d = changing d.tail d.last d.postings d.end
+-- the fields of the head that it stores, and where: the tail among them where there is a new block
+abbrev pub fields_at : Bool → ℕ
+fields_at true = 8
+fields_at false = 4
+
+abbrev pub fields : Bool → Head → List ℕ
+fields true d = growing d.last d.postings d.end
+fields false d = changing d.tail d.last d.postings d.end
 
 -- where a posting stores into the tail, and what: its code behind the others, or the link to the new block
 abbrev pub offset_in : Bool → Held → ℕ
@@ -71,7 +76,7 @@ module _ (used : ℕ) (t : Held) (p : Posting) (s : Sound used t) where
   -- the blocks that it had
   pub bytes-grown : (b : Bool) → stays (chain t).reach p ≡ b → (j : ℕ) → j ≤ tail_at t
       → block_bytes (grown b used t p) j
-      ≡ store_if (eqb j 0) (store_if (eqb j (tail_at t)) (block_bytes t j) (offset_in b t) (bytes_in b used t p)) 4 (fields (head_for (grown b used t p)))
+      ≡ store_if (eqb j 0) (store_if (eqb j (tail_at t)) (block_bytes t j) (offset_in b t) (bytes_in b used t p)) (fields_at b) (fields b (head_for (grown b used t p)))
   unfolding block_bytes written
   bytes-grown true e j h =
       let c : Chain = chain t in
@@ -83,7 +88,7 @@ module _ (used : ℕ) (t : Held) (p : Posting) (s : Sound used t) where
         chain-grown used t p true e,
         onward-stays c.reach p e,
         store_code (eqb j n) j (link_at t j) (head_for t) t.name x (head_for t).end (coded d) (λ q. (end_is j (eqb-true j n q), room)),
-        store_fields j (link_at t j) (head_for t) (head_for (grown true used t p)) t.name (cond (eqb j n) (x ++ coded d) x),
+        store_growing j (link_at t j) (head_for t) (head_for (grown true used t p)) t.name (cond (eqb j n) (x ++ coded d) x) (tail-stays used t p),
         codes-stays c.closed c.tail d j h,
       )
   bytes-grown false e j h =

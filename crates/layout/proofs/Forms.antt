@@ -15,7 +15,7 @@ use Rattle.basics.proofs.Stores.{sets_front}
 use Rattle.basics.proofs.Parts.{sets-second}
 use Rattle.blocks.specs.declared.Head.{Head}
 use Rattle.blocks.specs.Fields.{block_size, head_fixed}
-use Rattle.blocks.specs.Writes.{padded, changing}
+use Rattle.blocks.specs.Writes.{padded, growing, changing}
 use Rattle.layout.specs.Held.{form}
 use Rattle.layout.proofs.Chains.{start_at}
 use Rattle.layout.proofs.Arena.{store_if}
@@ -89,7 +89,14 @@ part_form j link d name x =
 
 -- ---- stores into fields
 
--- the changing fields of the head, by the block's place in the chain
+-- the fields of the head that every posting changes, by the block's place in the chain
+pub store_growing : (j link : ℕ) (d e : Head) (name x : List ℕ) → d.tail ≡ e.tail
+    → store_if (eqb j 0) (padded (form j link d name x)) 8 (growing e.last e.postings e.end) ≡ padded (form j link e name x)
+unfolding padded form word changing
+store_growing zero link d e name x q = rw q refl
+store_growing (suc j) link d e name x q = rw (ne_eqb (suc j) 0 (λ q. omega arith))
+
+-- and with the tail before them
 pub store_fields : (j link : ℕ) (d e : Head) (name x : List ℕ)
     → store_if (eqb j 0) (padded (form j link d name x)) 4 (changing e.tail e.last e.postings e.end) ≡ padded (form j link e name x)
 unfolding padded form word changing

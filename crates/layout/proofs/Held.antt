@@ -66,6 +66,10 @@ module _ (used : ℕ) (t : Held) (p : Posting) where
       let m : suc (length t.rest + 1) ≡ suc (length t.rest) + 1 = omega arith in
       rw (chain-grown true e, onward-stays (chain t).reach p e, length-append, m)
 
+  pub tail-stays : (head_for t).tail ≡ (head_for (grown true used t p)).tail
+  unfolding head_for
+  tail-stays = refl
+
   pub head-next : stays (chain t).reach p ≡ false → head_for (grown false used t p)
       ≡ record {
         tail = used;

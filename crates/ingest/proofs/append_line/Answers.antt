@@ -2,7 +2,7 @@
 use mathlib.Core.Path.{sym, ◌∙◌}
 use native.Mathlib.Omega.{arith}
 use Rattle.blocks.proofs.Capacity.{next-inside}
-use Rattle.ingest.proofs.Places.{head_fine, fine_appends, fine_tail}
+use Rattle.ingest.proofs.Places.{head_fine, fine_appends}
 use Rattle.ingest.proofs.append_line.Goals as goal
 
 pub fits_in-requires : goal.fits_in-requires
@@ -15,7 +15,6 @@ add_to-requires c =
     let a = c.args in
     let fine = head_fine a.arena.now a.k a.h c.in-Ok.d c.in-Ok.ensures.1 in (
       fine_appends a.arena.now a.k a.h c.in-Ok.d c.requires.0 c.requires.1 fine,
-      fine_tail a.arena.now a.k a.h c.in-Ok.ensures.0 fine,
       sym c.fits_in.ensures ∙ c.if-fits_in.true,
     )
 
