@@ -1,3 +1,4 @@
+pub mod Sizes
 pub mod Capacity
 pub mod Fields
 pub mod Writes

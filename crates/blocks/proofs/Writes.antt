@@ -18,16 +18,17 @@ use Rattle.postings.specs.Coding.{code}
 use Rattle.blocks.specs.declared.Head.{Head}
 use Rattle.blocks.specs.Fields.{block_size, head_fixed, link_size, place, link_of}
 use Rattle.blocks.specs.Writes.{padded, growing, changing, head_bytes, open_head, fits, add_to, join_to}
+use Rattle.blocks.proofs.Sizes.{sizes}
 
 -- ---- a cleared block
 
 pub length-padded : (s : List ℕ) → length s ≤ block_size → length (padded s) ≡ block_size
 unfolding padded
-length-padded s h = simp (length-append, length-replicate) (omega arith)
+length-padded s h = simp (length-append, length-replicate) (omega (arith, sizes))
 
 -- bytes written at the front of a cleared block
 pub padded-over : (a : List ℕ) (p : ℕ) (s : List ℕ) → length s ≤ block_size → sets (sets a p (padded [])) p s ≡ sets a p (padded s)
-unfolding padded
+unfolding padded block_size
 padded-over a p s h =
     sets_over a p (replicate block_size 0) s (rw length-replicate h) ∙ ap (λ (z : List ℕ). sets a p (s ++ z)) (drop-replicate (length s) block_size 0)
 
@@ -39,7 +40,7 @@ length-changing tail last postings end = simp (length-append, length-word)
 
 pub length-head_bytes : (b : ℕ) (name : List ℕ) (n f : ℕ) → length (head_bytes b name n f) ≡ head_fixed + length name + length (code n f)
 unfolding head_bytes
-length-head_bytes b name n f = simp (length-append, length-word, length-changing)
+length-head_bytes b name n f = simp (length-append, length-word, length-changing) (omega (arith, sizes))
 
 -- ---- what the stores of the code come to
 
@@ -50,8 +51,8 @@ growing-stored a p last postings end =
     let l₁ : length (word last) ≡ 4 = length-word last in
     let l₂ : length (word postings) ≡ 4 = length-word postings in
     rw (
-      sets_behind a (p + 8) (word last) (p + 12) (word postings) (omega arith),
-      sets_behind a (p + 8) (word last ++ word postings) (p + 16) (end ∷ []) (simp length-append (omega arith)),
+      sets_behind a (p + 8) (word last) (p + 12) (word postings) (omega (arith, sizes)),
+      sets_behind a (p + 8) (word last ++ word postings) (p + 16) (end ∷ []) (simp length-append (omega (arith, sizes))),
     )
 
 -- with the tail before them
@@ -60,7 +61,7 @@ pub changing-stored : (a : List ℕ) (p tail last postings end : ℕ)
 unfolding changing
 changing-stored a p tail last postings end =
     let l : length (word tail) ≡ 4 = length-word tail in
-    sets_behind a (p + 4) (word tail) (p + 8) (growing last postings end) (omega arith)
+    sets_behind a (p + 4) (word tail) (p + 8) (growing last postings end) (omega (arith, sizes))
 
 -- a new term's block: cleared, then its number, the length of the name, the name, the posting, and at last the fields that change
 pub open_stored : (a : List ℕ) (b : ℕ) (name : List ℕ) (n f : ℕ) → head_fixed + length name + length (code n f) ≤ block_size
@@ -77,13 +78,13 @@ open_stored a b name n f h =
     let r = l ++ name ++ code n f in
     let lw : length w ≡ 4 = length-word n in
     let le : length e ≡ 13 = length-changing b n 1 (head_fixed + length name + length (code n f)) in
-    let fit : length (w ++ e ++ r) ≤ block_size = simp length-append (omega arith) in
+    let fit : length (w ++ e ++ r) ≤ block_size = simp length-append (omega (arith, sizes)) in
     rw (
-      sets_behind t (p + 17) l (p + head_fixed) name (omega arith),
-      sets_behind t (p + 17) (l ++ name) (p + (head_fixed + length name)) (code n f) (simp length-append (omega arith)),
-      sets_comm t (p + 4) e (p + 17) r (omega arith),
-      sets_behind s p w (p + 4) e (omega arith),
-      sets_behind s p (w ++ e) (p + 17) r (simp length-append (omega arith)),
+      sets_behind t (p + 17) l (p + head_fixed) name (omega (arith, sizes)),
+      sets_behind t (p + 17) (l ++ name) (p + (head_fixed + length name)) (code n f) (simp length-append (omega (arith, sizes))),
+      sets_comm t (p + 4) e (p + 17) r (omega (arith, sizes)),
+      sets_behind s p w (p + 4) e (omega (arith, sizes)),
+      sets_behind s p (w ++ e) (p + 17) r (simp length-append (omega (arith, sizes))),
       padded-over a p (w ++ e ++ r) fit,
     )
     (simp append_assoc)
@@ -97,8 +98,8 @@ join_stored a h d b n f l =
     let c = code (n - link_of a d.tail) f in
     let s = sets a (place d.tail) (word b) in
     let lw : length (word n) ≡ 4 = length-word n in
-    let fit : length (word n ++ c) ≤ block_size = simp length-append (omega arith) in
-    rw (sets_behind (sets s (place b) (padded [])) (place b) (word n) (place b + link_size) c (omega arith), padded-over s (place b) (word n ++ c) fit)
+    let fit : length (word n ++ c) ≤ block_size = simp length-append (omega (arith, sizes)) in
+    rw (sets_behind (sets s (place b) (padded [])) (place b) (word n) (place b + link_size) c (omega (arith, sizes)), padded-over s (place b) (word n ++ c) fit)
 
 -- ---- a posting in the tail
 

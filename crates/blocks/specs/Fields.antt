@@ -6,15 +6,20 @@ use Rattle.blocks.specs.declared.Head.{Head}
 
 -- ---- sizes
 
+-- the bytes that are counted as one: by them the arena has room for blocks, and a block stands at its number times
+-- them
+abbrev pub unit : ℕ
+unit = 64
+
 -- the bytes of a block
-abbrev pub block_size : ℕ
+unfoldable pub block_size : ℕ
 block_size = 64
 
 -- the bytes of a head before its term, and of any other block before its postings
-abbrev pub head_fixed : ℕ
+unfoldable pub head_fixed : ℕ
 head_fixed = 18
 
-abbrev pub link_size : ℕ
+unfoldable pub link_size : ℕ
 link_size = 4
 
 -- blocks are numbered with 32 bits
@@ -23,14 +28,14 @@ max_word = 4294967295
 
 -- how many blocks an arena of so many bytes holds
 abbrev pub blocks_in : ℕ → ℕ
-blocks_in bytes = min (bytes / block_size) max_word
+blocks_in bytes = min (bytes / unit) max_word
 
 unfoldable pub capacity : List ℕ → ℕ
 capacity a = blocks_in (length a)
 
 -- where block b stands in the arena
 abbrev pub place : ℕ → ℕ
-place b = block_size * b
+place b = unit * b
 
 -- ---- fields
 
@@ -49,9 +54,15 @@ head_of a h = record {
   length = get_or a (place h + 17) 0;
 }
 
--- the term of a head
+-- the length of a head's term, the bytes where a term of length n stands, and the term
+unfoldable pub term_length : List ℕ → ℕ → ℕ
+term_length a h = get_or a (place h + 17) 0
+
+unfoldable pub name_part : List ℕ → ℕ → ℕ → List ℕ
+name_part a h n = take n (drop (place h + head_fixed) a)
+
 unfoldable pub name_of : List ℕ → ℕ → List ℕ
-name_of a h = take (get_or a (place h + 17) 0) (drop (place h + head_fixed) a)
+name_of a h = name_part a h (term_length a h)
 
 -- where the postings of block b begin in the chain of head h: every block but the head itself is read as one of the
 -- other blocks

@@ -1,12 +1,23 @@
 // Blocks of the arena (document 01, "Blocks"): the fields of a head, opening a head for a new term, adding a posting,
 // opening the next block.
-#![tactic(auto)]
+#![tactic(auto, unfolding(crate::specs::Fields::block_size, crate::specs::Fields::head_fixed, crate::specs::Fields::link_size))]
 
 ghost use Rattle.std.specs.Prelude.{◌≡◌, true, [], ◌+◌, ◌-◌, ◌*◌, ◌≤◌, ◌<◌, length};
 ghost use Rattle.std.proofs.lemmas.List.Edits.{sets};
 ghost use Rattle.postings.specs.Coding.{code};
 ghost use Rattle.terms.specs.Terms.{max_term};
-ghost use Rattle.blocks.specs.Fields.{block_size, capacity, place, link_of, head_of, part_start};
+ghost use Rattle.blocks.specs.Fields.{
+  block_size,
+  link_size,
+  capacity,
+  place,
+  link_of,
+  head_of,
+  term_length,
+  name_part,
+  part_start,
+  part_of,
+};
 ghost use Rattle.blocks.specs.Marked.{marked_right};
 ghost use Rattle.blocks.specs.Writes.{padded, growing, changing, open_head, fits, add_to, join_to, append, Appends};
 
@@ -14,6 +25,16 @@ mod used;
 
 use postings::{BGap, DGap, Gap};
 pub use used::Used;
+
+// The bytes that are counted as one, and those of a block.
+const UNIT: usize = 64;
+
+const BLOCK: usize = 64;
+
+// The bytes of a head before its term, and of any other block before its postings.
+const FIXED: usize = 18;
+
+const LINK: usize = 4;
 
 // The fields of a head but its link and its term.
 #[derive(Clone, Copy)]
@@ -25,23 +46,39 @@ pub struct Head {
     pub length: usize,
 }
 
+// The bytes of a block.
+#[tactic(auto, unfolding(crate::specs::Fields::block_size))]
+pub fn block_size() -> usize
+    ensures { result ≡ block_size }
+{
+    BLOCK
+}
+
+// The bytes of a block but a head before its postings.
+#[tactic(auto, unfolding(crate::specs::Fields::link_size))]
+pub fn link_size() -> usize
+    ensures { result ≡ link_size }
+{
+    LINK
+}
+
 // How many blocks an arena holds.
 #[tactic(auto, unfolding(crate::specs::Fields::capacity))]
 pub fn capacity_of(arena: &[u8]) -> u32
     ensures { result ≡ capacity arena.now }
 {
-    basics::saturated(arena.len() / 64)
+    basics::saturated(arena.len() / UNIT)
 }
 
 // Where a block stands in the arena.
 pub fn place_of(b: u32) -> usize
     ensures { result ≡ place b }
 {
-    64 * (b as usize)
+    UNIT * (b as usize)
 }
 
 // The next block's number; in the tail, the block's first report number.
-#[tactic(auto, unfolding(crate::specs::Fields::link_of))]
+#[tactic(auto, unfolding(crate::specs::Fields::block_size, crate::specs::Fields::link_of))]
 pub fn link_of(arena: &[u8], b: u32) -> u32
     requires { place b + block_size ≤ length arena.now }
     ensures { result ≡ link_of arena.now b }
@@ -49,7 +86,7 @@ pub fn link_of(arena: &[u8], b: u32) -> u32
     basics::read_word(arena, place_of(b))
 }
 
-#[tactic(auto, unfolding(crate::specs::Fields::head_of))]
+#[tactic(auto, unfolding(crate::specs::Fields::block_size, crate::specs::Fields::head_of))]
 pub fn head_of(arena: &[u8], h: u32) -> Head
     requires { place h + block_size ≤ length arena.now }
     ensures { result ≡ head_of arena.now h }
@@ -64,25 +101,56 @@ pub fn head_of(arena: &[u8], h: u32) -> Head
     }
 }
 
+// The length of a head's term.
+#[tactic(auto, unfolding(crate::specs::Fields::block_size, crate::specs::Fields::term_length))]
+pub fn term_length(arena: &[u8], h: u32) -> usize
+    requires { place h + block_size ≤ length arena.now }
+    ensures { result ≡ term_length arena.now h }
+{
+    usize::from(arena[place_of(h) + 17])
+}
+
+// The bytes of a head where a term of length n stands.
+#[tactic(auto, unfolding(crate::specs::Fields::block_size, crate::specs::Fields::head_fixed, crate::specs::Fields::name_part))]
+pub fn name_part<'a>(arena: &'a [u8], h: u32, n: usize) -> &'a [u8]
+    requires { (n ≤ max_term) × (place h + block_size ≤ length arena.now) }
+    ensures is { result.now ≡ name_part arena.now h n }
+    ensures length { length result.now ≡ n }
+{
+    let at = place_of(h) + FIXED;
+    &arena[at..at + n]
+}
+
+// The bytes of block b from an offset up to another.
+#[tactic(auto, unfolding(crate::specs::Fields::part_of))]
+pub fn part_of<'a>(arena: &'a [u8], b: u32, from: usize, to: usize) -> &'a [u8]
+    requires { (from ≤ to) × (to ≤ block_size) × (place b + block_size ≤ length arena.now) }
+    ensures is { result.now ≡ part_of arena.now b from to }
+    ensures length { length result.now ≡ to - from }
+{
+    let at = place_of(b);
+    &arena[at + from..at + to]
+}
+
 // Where the postings of block b begin in the chain of head h.
-#[tactic(auto, unfolding(crate::specs::Fields::part_start))]
+#[tactic(auto, unfolding(crate::specs::Fields::head_fixed, crate::specs::Fields::link_size, crate::specs::Fields::part_start))]
 pub fn part_start(d: Head, h: u32, b: u32) -> usize
     requires { d.length < 256 }
     ensures { result ≡ part_start d h b }
 {
-    if b == h { 18 + d.length } else { 4 }
+    if b == h { FIXED + d.length } else { LINK }
 }
 
 // ---- writing
 
 // Writes nulls into a block.
-#[tactic(auto, using(basics::proofs::Stores::put_mid_sets), unfolding(crate::specs::Writes::padded))]
+#[tactic(auto, using(basics::proofs::Stores::put_mid_sets), unfolding(crate::specs::Fields::block_size, crate::specs::Writes::padded))]
 fn clear(arena: &mut [u8], b: u32)
     requires { place b + block_size ≤ length arena.old }
     ensures { arena.new ≡ sets arena.old (place b) (padded []) }
 {
     let from = place_of(b);
-    arena[from..from + 64].fill(0);
+    arena[from..from + BLOCK].fill(0);
 }
 
 // Writes the fields of a head that every posting changes.
@@ -146,8 +214,8 @@ pub fn open_head(arena: &mut [u8], b: u32, name: &[u8], number: u32, count: u32)
     clear(arena, b);
     basics::write_word(arena, at, number);
     arena[at + 17] = length as u8;
-    basics::write_bytes(arena, at + 18, name);
-    let end = put_first(arena, b, 18 + length, BGap::between(0, number), count);
+    basics::write_bytes(arena, at + FIXED, name);
+    let end = put_first(arena, b, FIXED + length, BGap::between(0, number), count);
     let d = Head {
         tail: b,
         last: number,
@@ -158,15 +226,15 @@ pub fn open_head(arena: &mut [u8], b: u32, name: &[u8], number: u32, count: u32)
     put_changing(arena, b, d);
 }
 
-// Whether a posting fits by byte 63 of the tail with its d-gap. A code has at most 10 bytes, so that its length matters
-// only near the block's end.
-#[tactic(auto, using(crate::proofs::Writes::fitting), unfolding(crate::specs::Writes::fits))]
+// Whether a posting fits into the tail with its d-gap. The length of its code matters only near the block's end.
+#[tactic(auto, using(crate::proofs::Writes::fitting), unfolding(crate::specs::Fields::block_size, crate::specs::Writes::fits))]
 pub fn fits_in(d: Head, number: u32, count: u32) -> bool
     requires { (d.last < number) × (d.end ≤ block_size) }
     ensures { result ≡ fits d number count }
 {
     let gap = DGap::between(d.last, number);
-    d.end <= 54 || d.end + postings::posting_length(gap.steps(), count) <= 64
+    d.end + postings::MAX_CODE <= BLOCK
+        || d.end + postings::posting_length(gap.steps(), count) <= BLOCK
 }
 
 // A posting at the write offset of the tail. The tail stays, so that field of the head is not written again.
@@ -193,7 +261,7 @@ pub fn join_to(arena: &mut [u8], h: u32, d: Head, b: u32, number: u32, count: u3
     basics::write_word(arena, place_of(d.tail), b);
     clear(arena, b);
     basics::write_word(arena, place_of(b), number);
-    let end = put_first(arena, b, 4, gap, count);
+    let end = put_first(arena, b, LINK, gap, count);
     let grown = Head {
         tail: b,
         last: number,

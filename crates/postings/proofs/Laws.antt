@@ -6,7 +6,7 @@ use Prim.Native.Nat.{ℕ, ◌+◌, ◌-◌, ◌*◌, ◌%◌, ◌^◌, ◌≤◌
 use native.Mathlib.Omega.{arith}
 use lib.ListN.{length, drop, get_or, length-append}
 use Rattle.std.specs.Prelude.{None}
-use Rattle.postings.specs.Coding.{vbyte, code, posting, value, at_most, first, decoded}
+use Rattle.postings.specs.Coding.{vbyte, code, max_code, posting, value, at_most, first, decoded}
 use Rattle.basics.proofs.Cases.{by-lt}
 use Rattle.postings.proofs.Values.{by_bytes, last, more, length_pos, length_le}
 use Rattle.postings.proofs.Codes.{code_low, code_high, length_high}
@@ -19,7 +19,7 @@ length-code_pos g f =
     by-lt f 4 (λ h. rw (code_low g f h) (length_pos ((g - 1) * 4 + f)))
     (λ h. omega (arith, length_high g f h, length_pos (g * 4)))
 
-pub length-code_le : (g f : ℕ) → g < 2 ^ 32 → f < 2 ^ 32 → length (code g f) ≤ 10
+pub length-code_le : (g f : ℕ) → g < 2 ^ 32 → f < 2 ^ 32 → length (code g f) ≤ max_code
 length-code_le g f hg hf =
     by-lt f 4 (λ h. omega (arith, ap length (code_low g f h), length_le 4 ((g - 1) * 4 + f) (omega arith)))
     (λ h. omega (arith, length_high g f h, length_le 4 (g * 4) (omega arith), length_le 4 (f - 3) (omega arith)))

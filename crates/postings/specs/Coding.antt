@@ -44,6 +44,10 @@ code_length bits = max 1 ((bits + 6) / 7)
 unfoldable pub code : ℕ → ℕ → List ℕ
 code g f = cond (ltb f threshold) (vbyte ((g - 1) * threshold + f)) (vbyte (g * threshold) ++ vbyte (f - 3))
 
+-- the longest code has so many bytes: two values of five
+abbrev pub max_code : ℕ
+max_code = 10
+
 -- ---- decoding
 
 -- value v in l bytes

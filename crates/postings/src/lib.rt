@@ -33,6 +33,9 @@ impl<const BLOCK: bool> Gap<BLOCK> {
     }
 }
 
+// The longest code of a posting: two values of five bytes.
+pub const MAX_CODE: usize = 10;
+
 // A value at the front of some bytes, and how many of them it takes.
 #[derive(Clone, Copy)]
 pub struct Value {
