@@ -2,11 +2,17 @@
 -- Assumes nothing.
 use mathlib.Core.Path.{◌≡◌, ap}
 use mathlib.Core.List.{List}
-use Prim.Native.Nat.{ℕ, ◌+◌, ◌<◌}
+use Prim.Native.Nat.{ℕ, ◌+◌, ◌≤◌, ◌<◌}
 use borrow.Author.Tests.{eq-eqb, ne_eqb}
-use lib.ListN.{get_or}
+use lib.ListN.{length, get_or, length-take, length-drop}
+use mathlib.Core.Bool.{false}
+use native.Mathlib.Omega.{arith}
+use Rattle.basics.specs.Lists.{same}
+use Rattle.basics.proofs.Lists.{ne_same}
+use Rattle.terms.specs.Terms.{max_term}
 use Rattle.blocks.specs.declared.Head.{Head}
-use Rattle.blocks.specs.Fields.{head_fixed, link_size, place, head_of, part_start}
+use Rattle.blocks.specs.Fields.{block_size, head_fixed, link_size, place, head_of, term_length, name_part, name_of, part_start}
+use Rattle.blocks.proofs.Sizes.{head_room}
 
 -- the length of a head's term is its byte 17
 pub head-length : (a : List ℕ) (h : ℕ) {d : Head} → d ≡ head_of a h → d.length ≡ get_or a (place h + 17) 0
@@ -15,6 +21,22 @@ head-length a h e = ap (λ (d : Head). d.length) e
 
 pub head-short : (a : List ℕ) (h : ℕ) {d : Head} → d ≡ head_of a h → ((i : ℕ) → get_or a i 0 < 256) → d.length < 256
 head-short a h e byte = rw (head-length a h e) (byte (place h + 17))
+
+-- ---- the term of a head
+
+module _ (a : List ℕ) (b : ℕ) where
+  -- where its length is n it is the part of so many bytes
+  pub name_own : (n : ℕ) → term_length a b ≡ n → name_part a b n ≡ name_of a b
+  unfolding name_of
+  name_own n e = rw e
+
+  -- a head with another length holds another term, since behind its fixed bytes stand more than a term has
+  pub name_other : (w : List ℕ) → place b + block_size ≤ length a → length w ≤ max_term → (term_length a b ≡ length w → ⊥) → same (name_of a b) w ≡ false
+  unfolding name_of name_part
+  name_other w inside short ne =
+      ne_same (name_of a b) w (λ e. ne (omega (arith, head_room, inside, short, simp (length-take, length-drop) at (ap length e))))
+
+-- ---- where postings begin
 
 -- the postings of the head itself begin behind its term, those of any other block behind its link
 module _ (d : Head) (h b : ℕ) where

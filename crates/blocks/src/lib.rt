@@ -103,11 +103,11 @@ pub fn head_of(arena: &[u8], h: u32) -> Head
 
 // The length of a head's term.
 #[tactic(auto, unfolding(crate::specs::Fields::block_size, crate::specs::Fields::term_length))]
-pub fn term_length(arena: &[u8], h: u32) -> usize
+pub fn term_length(arena: &[u8], h: u32) -> u8
     requires { place h + block_size ≤ length arena.now }
     ensures { result ≡ term_length arena.now h }
 {
-    usize::from(arena[place_of(h) + 17])
+    arena[place_of(h) + 17]
 }
 
 // The bytes of a head where a term of length n stands.

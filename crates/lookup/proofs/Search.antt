@@ -26,6 +26,7 @@ use Rattle.basics.proofs.Cases.{by-lt, by-eq}
 use Rattle.basics.proofs.Lists.{same_eq, eq_same}
 use Rattle.terms.specs.Terms.{fnv1a}
 use Rattle.blocks.specs.Fields.{name_of}
+use Rattle.blocks.proofs.Sizes.{block_unit}
 use Rattle.refusals.specs.declared.Refusal.{Refusal}
 use Rattle.refusals.specs.declared.Refusal.TheVariants.{Damaged}
 use Rattle.lookup.specs.Lookup.{slots, next_slot, search_from, search, enter, first_entry}
@@ -262,7 +263,7 @@ module _ (a : List ℕ) (used : ℕ) (table w : List ℕ) where
       grind (arith, nat_tests)
 
 -- what the turns of a search take
-pub ruleset searching = (nat_tests, slots_le, from_some, from-none, search-none, search-some)
+pub ruleset searching = (block_unit, nat_tests, slots_le, from_some, from-none, search-none, search-some)
 
 -- what the entry where a search begins takes
 pub ruleset starting = (slots_le, first-none, first_some)

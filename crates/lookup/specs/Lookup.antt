@@ -2,7 +2,7 @@
 use Rattle.std.specs.Prelude.{ℕ, zero, suc, ◌+◌, ◌-◌, ◌%◌, ◌<◌, min, ◌≡◌, List, [], ◌∷◌, Result, Ok, Err, cond, ◌&&◌, ltb, leb, eqb, length, get_or, set, replicate}
 use Rattle.basics.specs.Lists.{same}
 use Rattle.terms.specs.Terms.{fnv1a}
-use Rattle.blocks.specs.Fields.{max_word, place, name_of}
+use Rattle.blocks.specs.Fields.{max_word, term_length, name_of}
 use Rattle.refusals.specs.declared.Refusal.{Refusal}
 use Rattle.refusals.specs.declared.Refusal.TheVariants.{Damaged}
 use Rattle.lookup.specs.declared.Found.{Found}
@@ -70,7 +70,7 @@ first_entry table hash = cond (eqb (slots table) 0) 0 (get_or table (hash % slot
 
 -- the length of the term in the head that an entry leads to; 0 where it leads to no used block
 unfoldable pub length_behind : List ℕ → ℕ → ℕ → ℕ
-length_behind a used e = cond (ltb 0 e && leb e used) (get_or a (place (e - 1) + 17) 0) 0
+length_behind a used e = cond (ltb 0 e && leb e used) (term_length a (e - 1)) 0
 
 -- the first entries are those of the hashes
 pub record Entries (table hashes entries : List ℕ) : Type 0 where

@@ -32,9 +32,9 @@ fn holds_name(arena: &[u8], b: u32, name: Name) -> bool
     requires { place b + block_size ≤ length arena.now }
     ensures { result ≡ same (name_of arena.now b) name.entry.bytes.now }
 {
-    let at = blocks::place_of(b);
     let n = name.bytes.len();
-    usize::from(arena[at + 17]) == n && basics::same_bytes(&arena[at + 18..at + 18 + n], name.bytes)
+    usize::from(blocks::term_length(arena, b)) == n
+        && basics::same_bytes(blocks::name_part(arena, b, n), name.bytes)
 }
 
 // The search for a folded term: from the slot of its hash, one slot on and wrapping, to a match or an empty slot.
@@ -95,14 +95,14 @@ pub fn first_entries(table: &[u32], hashes: &[u32], entries: &mut [u32])
 }
 
 // The length of the term in the head that an entry leads to.
-#[tactic(auto, using(std::proofs::lemmas::Bool::Decides::nat_tests), unfolding(crate::specs::Lookup::length_behind))]
+#[tactic(auto, using(std::proofs::lemmas::Bool::Decides::nat_tests, blocks::proofs::Sizes::block_unit), unfolding(crate::specs::Lookup::length_behind))]
 fn length_behind(used: Used, e: u32) -> u8
     ensures { result ≡ length_behind used.entry.arena.now used.entry.blocks e }
 {
     if e == 0 || used.blocks < e {
         return 0;
     }
-    used.arena[blocks::place_of(e - 1) + 17]
+    blocks::term_length(used.arena, e - 1)
 }
 
 // The lengths behind several entries, asked for together in the same way.
@@ -114,7 +114,7 @@ pub fn first_lengths(used: Used, entries: &[u32], lengths: &mut [u8])
 }
 
 // The search for a folded term whose first entry, and the length behind it, are known.
-#[tactic(auto, using(std::proofs::lemmas::Bool::Decides::nat_tests), unfolding(crate::specs::Lookup::length_behind))]
+#[tactic(auto, using(std::proofs::lemmas::Bool::Decides::nat_tests, blocks::proofs::Sizes::block_unit), unfolding(crate::specs::Lookup::length_behind))]
 pub fn find_from(
     used: Used,
     table: &[u32],
@@ -128,8 +128,7 @@ pub fn find_from(
 {
     let n = name.bytes.len();
     if usize::from(stored) == n {
-        let from = blocks::place_of(entry - 1) + 18;
-        if basics::same_bytes(&used.arena[from..from + n], name.bytes) {
+        if basics::same_bytes(blocks::name_part(used.arena, entry - 1, n), name.bytes) {
             return Ok(Found::At(entry - 1));
         }
     }
