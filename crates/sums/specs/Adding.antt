@@ -32,7 +32,11 @@ added_to part stop p = add_from (length part) part stop p
 pub record Bounded (part : List ℕ) (reports at number : ℕ) : Type 0 where
   pub last : (added_to part (length part) (sum_of at number)).number ≤ reports
 
+-- a part has fewer than 2 ^ 32 bytes, so that the number that its gaps lead to has at most 64 bits
+abbrev pub max_part : ℕ
+max_part = 4294967295
+
 -- a posting takes a byte or more, and its gap has 32 bits
 pub record Small (p : Sum ℕ) : Type 0 where
-  pub number_in : p.number ≤ 4294967296 * (p.at + 1)
+  pub number_in : p.number ≤ 4294967295 * (p.at + 1)
   pub postings_in_lem : p.postings ≤ p.at

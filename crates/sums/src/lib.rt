@@ -3,7 +3,7 @@
 #![tactic(auto)]
 
 ghost use Rattle.std.specs.Prelude.{◌≡◌, IfSome, sum, ◌+◌, ◌≤◌, ◌<◌, length};
-ghost use Rattle.sums.specs.Adding.{sum_of, added_to, Small};
+ghost use Rattle.sums.specs.Adding.{max_part, sum_of, added_to, Small};
 ghost use Rattle.sums.specs.Rows.{is_second, gap_of, mark_of, gap_at, mark_at, lane, Lane, Rows};
 
 // The offset behind the last posting, the number that the gaps lead to, whatever reports there are, and how many
@@ -17,7 +17,7 @@ pub struct Sum<N> {
 
 // Adds up the postings that start before offset `stop`, or those before one that is not sound.
 fn add_up(part: &[u8], from: Sum<u64>, stop: usize) -> Sum<u64>
-    requires { (stop ≤ length part.now) × (length part.now ≤ 64) × Small from }
+    requires { (stop ≤ length part.now) × (length part.now ≤ max_part) × Small from }
     ensures { (result ≡ added_to part.now stop from) × Small result }
 {
     let mut sum = from;
@@ -132,7 +132,7 @@ fn read_rows(part: &[u8]) -> Option<RowSum>
 
 // Adds up all postings of a part from offset `at` on, behind the posting of that number.
 pub fn add_all(part: &[u8], at: usize, number: u32) -> Sum<u64>
-    requires { length part.now ≤ 64 }
+    requires { length part.now ≤ max_part }
     ensures { result ≡ added_to part.now (length part.now) (sum_of at number) }
 {
     let none = Sum {
