@@ -1,5 +1,5 @@
 -- Adding up the postings of a part, whatever reports there are.
-use Rattle.std.specs.Prelude.{ℕ, zero, suc, ◌+◌, ◌*◌, ◌≤◌, List, Option, Some, None, cond, ltb, length, drop}
+use Rattle.std.specs.Prelude.{ℕ, zero, suc, ◌+◌, ◌*◌, ◌≤◌, ◌≡◌, List, Option, Some, None, cond, ltb, length, drop}
 use Rattle.postings.specs.Coding.{decoded}
 use Rattle.postings.specs.declared.Decoded.{Decoded}
 use Rattle.sums.specs.declared.Sum.{Sum}
@@ -26,6 +26,10 @@ add_from (suc fuel) part stop p =
 -- all of them: a posting takes at least one byte, so a part has no more postings than bytes
 unfoldable pub added_to : List ℕ → ℕ → Sum ℕ → Sum ℕ
 added_to part stop p = add_from (length part) part stop p
+
+-- adding up from `from` on has come to p: what is added up from there on completes the sum
+pub record Completes (part : List ℕ) (stop : ℕ) (from p : Sum ℕ) : Type 0 where
+  pub sum : added_to part stop p ≡ added_to part stop from
 
 -- from offset `at` on, behind the posting of that number, no number of the part is over `reports`: the last one is the
 -- largest
