@@ -16,7 +16,7 @@ use Rattle.sums.specs.declared.Sum.{Sum}
 use Rattle.sums.specs.Adding.{added_to}
 use Rattle.sums.specs.Rows.{is_second, gap_of, mark_of, gap_at, mark_at, sum_from, lane, Lane, Rows}
 use Rattle.sums.proofs.Adding.{Adds, at_stop, added_on, added_ends}
-use Rattle.sums.proofs.Bytes.{second_yes, second-behind, second_past, second-not, gap-second, gap-one, gap_pair, Fit, mark_start, mark_second, mark_fits}
+use Rattle.sums.proofs.Bytes.{second_yes, second-behind, second_past, gap-second, gap-one, gap_pair, Fit, before_pair, of_one_byte, mark_start, mark_second, mark_fits}
 
 -- ---- sums
 
@@ -103,13 +103,9 @@ same_state : {a a' n n' c c' : ℕ} → a ≡ a' → n ≡ n' → c ≡ c' → s
 same_state p q r = rw (p, q, r)
 
 -- the rows of the window that begins at offset o
-module _ (s : List ℕ) (o : ℕ) (len : o + 2 + 48 ≤ length s) (closed : byte s (o + 49) % 4 ≡ 0 → byte s (o + 48) % 4 ≡ 0) where
+module _ (s : List ℕ) (o : ℕ) (len : o + 2 + 48 ≤ length s) (closed : is_second (byte s (o + 49)) (byte s (o + 48)) ≡ false) where
   abbrev end : ℕ
   end = o + 2 + 48
-
-  fit : (j : ℕ) → mark_at s j < 64 → Fit (byte s (j + 2)) (byte s (j + 1)) (byte s j)
-  unfolding mark_at
-  fit j h = mark_fits (byte s (j + 2)) (byte s (j + 1)) (byte s j) h
 
   -- m bytes from offset j + 2 on add what each of them adds
   abbrev Add : ℕ → ℕ → ℕ → ℕ → Type 0
@@ -120,9 +116,13 @@ module _ (s : List ℕ) (o : ℕ) (len : o + 2 + 48 ≤ length s) (closed : byte
   Claim m j n c = j + 2 + m ≡ end → is_second (byte s (j + 1)) (byte s j) ≡ false → sum_from (mark_at s) j m < 64 → Add m j n c
 
   module _ (j n c : ℕ) (b : is_second (byte s (j + 1)) (byte s j) ≡ false) (i : j + 2 < end) (first : mark_at s j < 64) where
+    fit : Fit (byte s (j + 2)) (byte s (j + 1)) (byte s j)
+    unfolding mark_at
+    fit = mark_fits (byte s (j + 2)) (byte s (j + 1)) (byte s j) first
+
     starts : mark_at s j ≡ 1
     unfolding mark_at
-    starts = mark_start (byte s (j + 2)) (byte s (j + 1)) (byte s j) (fit j first) b
+    starts = mark_start (byte s (j + 2)) (byte s (j + 1)) (byte s j) fit b
 
     next_two : j + 1 + 1 ≡ j + 2
     next_two = omega arith
@@ -132,48 +132,49 @@ module _ (s : List ℕ) (o : ℕ) (len : o + 2 + 48 ≤ length s) (closed : byte
         → ((n c : ℕ) → Claim m (j + 1) n c) → Add (suc m) j n c
     unfolding sum_from gap_at
     one m e w u ih =
-        let x = fit j first in
         let y = byte s (j + 2) / 4 + 1 in
-        let adds : Adds s end (state (j + 2) n c) = record { g = y; f = byte s (j + 2) % 4; l = 1; before_stop = i; found = at_one s (j + 2) (omega arith) x.high u } in
+        let adds : Adds s end (state (j + 2) n c) = record { g = y; f = byte s (j + 2) % 4; l = 1; before_stop = i; found = at_one s (j + 2) (omega arith) fit.high u } in
         added_on s end len adds
         ∙ ap (λ (a : ℕ). added_to s end (state a (n + y) (c + 1))) (omega arith)
-        ∙ ih (n + y) (c + 1) (omega arith)
-        (second-behind (byte s (j + 1 + 1)) (byte s (j + 1)) (subst (λ (a : ℕ). 0 < byte s a % 4) (sym next_two) u))
-        (omega (arith, w))
+        ∙ ih (n + y) (c + 1) (omega arith) (rw next_two (second-behind (byte s (j + 2)) (byte s (j + 1)) u)) (omega (arith, w))
         ∙ same_state refl (omega (arith, gap-one (byte s (j + 2)) (byte s (j + 1)) (byte s j) b u)) (omega (arith, starts))
 
-    -- a code of two, whose first byte is not the last
+    -- the byte behind it, and both together
+    next_three : j + 1 + 2 ≡ j + 2 + 1
+    next_three = omega arith
+
+    next_mark : mark_at s (j + 1) ≡ mark_of (byte s (j + 2 + 1)) (byte s (j + 2)) (byte s (j + 1))
+    unfolding mark_at
+    next_mark = rw (next_two, next_three)
+
+    next_gap : gap_at s (j + 1) ≡ gap_of (byte s (j + 2 + 1)) (byte s (j + 2)) (byte s (j + 1))
+    unfolding gap_at
+    next_gap = rw (next_two, next_three)
+
+    two : (f : ℕ → ℕ) (m : ℕ) → sum_from f j (suc (suc m)) ≡ f j + f (j + 1) + sum_from f (j + 2) m
+    unfolding sum_from
+    two f m = rw next_two (omega arith)
+
+    -- a code of two
     pair : (m : ℕ) → j + 2 + suc (suc m) ≡ end → sum_from (mark_at s) j (suc (suc m)) < 64 → byte s (j + 2) % 4 ≡ 0
         → ((n c : ℕ) → Claim m (j + 2) n c) → Add (suc (suc m)) j n c
-    unfolding sum_from gap_at mark_at
+    unfolding gap_at
     pair m e w z ih =
-        let x = fit j first in
-        let x' = fit (j + 1) (omega (arith, w)) in
-        let q : 0 < byte s (j + 1) % 4 = by-lt 0 (byte s (j + 1) % 4) (λ u. u) (λ u. absurd (omega (arith, x.not_three z (omega arith), second-not (byte s (j + 1)) (byte s j) b (omega arith)))) in
-        let t : is_second (byte s (j + 1 + 1)) (byte s (j + 1)) ≡ true = second_yes (byte s (j + 1 + 1)) (byte s (j + 1)) (subst (λ (a : ℕ). byte s a % 4 ≡ 0) (sym next_two) z) q in
-        let d : j + 1 + 2 ≡ j + 2 + 1 = omega arith in
         let y = byte s (j + 2) / 4 in
+        let fit' : Fit (byte s (j + 2 + 1)) (byte s (j + 2)) (byte s (j + 1)) = mark_fits _ _ _ (omega (arith, w, next_mark, two (mark_at s) m)) in
+        let t : is_second (byte s (j + 2)) (byte s (j + 1)) ≡ true = second_yes _ _ z (before_pair _ _ _ fit b z) in
         let adds : Adds s end (state (j + 2) n c) = record {
           g = y;
           f = byte s (j + 2 + 1) + 3;
           l = 2;
           before_stop = i;
-          found = at_pair s (j + 2) (omega arith) (omega arith) (subst (λ (a : ℕ). 0 < byte s a) d x'.low) (subst (λ (a : ℕ). byte s a < 128) d x'.high) x.low x.high z;
+          found = at_pair s (j + 2) (omega arith) (omega arith) fit'.low fit'.high fit.low fit.high z;
         } in
         added_on s end len adds
-        ∙ ih (n + y) (c + 1) (omega arith) (second_past (byte s (j + 2 + 1)) (byte s (j + 2)) z)
-        (omega (arith, w, ap (λ (a : ℕ). sum_from (mark_at s) a m) next_two))
+        ∙ ih (n + y) (c + 1) (omega arith) (second_past (byte s (j + 2 + 1)) (byte s (j + 2)) z) (omega (arith, w, two (mark_at s) m))
         ∙ same_state refl
-        (omega (arith, gap_pair (byte s (j + 2)) (byte s (j + 1)) (byte s j) b z, gap-second (byte s (j + 1 + 2)) (byte s (j + 1 + 1)) (byte s (j + 1)) t, ap (λ (a : ℕ). sum_from (gap_at s) a m) next_two))
-        (omega (arith, starts, mark_second (byte s (j + 1 + 2)) (byte s (j + 1 + 1)) (byte s (j + 1)) x' t, ap (λ (a : ℕ). sum_from (mark_at s) a m) next_two))
-
-    -- the last byte leaves no code open
-    whole : j + 3 ≡ end → 0 < byte s (j + 2) % 4
-    whole e = by-lt 0 (byte s (j + 2) % 4) (λ u. u) (λ u.
-        let z : byte s (j + 2) % 4 ≡ 0 = omega arith in
-        let x = fit j first in
-        let p : byte s (j + 1) % 4 ≡ 0 = subst (λ (a : ℕ). byte s a % 4 ≡ 0) (omega arith) (closed (subst (λ (a : ℕ). byte s a % 4 ≡ 0) (omega arith) z)) in
-        absurd (omega (arith, x.not_three z p, second-not (byte s (j + 1)) (byte s j) b p)))
+        (omega (arith, two (gap_at s) m, gap_pair (byte s (j + 2)) (byte s (j + 1)) (byte s j) b z, next_gap, gap-second (byte s (j + 2 + 1)) (byte s (j + 2)) (byte s (j + 1)) t))
+        (omega (arith, two (mark_at s) m, starts, next_mark, mark_second (byte s (j + 2 + 1)) (byte s (j + 2)) (byte s (j + 1)) fit' t))
 
   rows : (m j n c : ℕ) → Claim m j n c
   unfolding sum_from
@@ -181,7 +182,9 @@ module _ (s : List ℕ) (o : ℕ) (len : o + 2 + 48 ≤ length s) (closed : byte
   rows (suc zero) j n c e b w =
       let h : mark_at s j < 64 = omega (arith, w) in
       let i : j + 2 < end = omega arith in
-      one j n c b i h zero e w (whole j n c b i h (omega arith)) (λ n c. rows zero (j + 1) n c)
+      let e1 : o + 48 ≡ j + 1 = omega arith in
+      let e2 : o + 49 ≡ j + 2 = omega arith in
+      one j n c b i h zero e w (of_one_byte _ _ _ (fit j n c b i h) b (rw (e1, e2) at closed)) (λ n c. rows zero (j + 1) n c)
   rows (suc (suc m)) j n c e b w =
       let h : mark_at s j < 64 = omega (arith, w) in
       let i : j + 2 < end = omega arith in
@@ -220,7 +223,7 @@ module _ (part : List ℕ) (o n : ℕ) (h : 50 ≤ n) where
         adds = λ n c.
             rw (lanes_total _ gaps g, lanes_total _ marks m, window_sum gap_of, window_sum mark_of)
             (rows_add part o (omega arith)
-            (λ z. rw (← window_byte 48 (o + 48) (omega arith) refl) (second-not _ _ closed (rw (window_byte 49 (o + 49) (omega arith) refl) z)))
+            (rw (← window_byte 48 (o + 48) (omega arith) refl, ← window_byte 49 (o + 49) (omega arith) refl) closed)
             (rw (← window_byte 1 (o + 1) (omega arith) refl, ← window_byte 0 o (omega arith) (omega arith)) begins)
             (omega (arith, lanes_total _ marks m, window_sum mark_of)) n c);
       })
