@@ -15,7 +15,7 @@ use Rattle.postings.specs.Coding.{posting, decoded}
 use Rattle.postings.specs.declared.Decoded.{Decoded}
 use Rattle.postings.proofs.Laws.{decoded_held, decoded-within}
 use Rattle.sums.specs.declared.Sum.{Sum}
-use Rattle.sums.specs.Adding.{sum_of, further, add_one, add_from, added_to, Bounded}
+use Rattle.sums.specs.Adding.{sum_of, further, add_one, add_from, added_to, Completes, Bounded}
 
 cond_same : (x : Bool) (p : Sum ℕ) → cond x p p ≡ p
 cond_same true p = refl
@@ -33,12 +33,6 @@ pub record Adds (part : List ℕ) (stop : ℕ) (p : Sum ℕ) : Type 0 where
 pub data Ends (part : List ℕ) (stop : ℕ) (p : Sum ℕ) : Type 0 where
   at_stop : stop ≤ p.at → Ends part stop p
   no_posting : decoded (drop p.at part) ≡ None → Ends part stop p
-
--- a loop on its way: from p on it adds up to what was to be added up from p₀ on, and k more postings are enough
-pub record Adding (part : List ℕ) (stop : ℕ) (p₀ p : Sum ℕ) : Type 0 where
-  pub k : ℕ
-  pub enough : stop ≤ p.at + k
-  pub is : add_from (length part) part stop p₀ ≡ add_from k part stop p
 
 -- a posting that is found has a gap of 32 bits, takes a byte or more and lies within the part
 pub record Sized (part : List ℕ) (at : ℕ) (d : Decoded) : Type 0 where
@@ -97,92 +91,88 @@ module _ (part : List ℕ) (stop : ℕ) where
           let l = adds_byte w in
           add-on k w ∙ ih j (further p w.g w.l) (omega arith) (omega arith) ∙ sym (add-on j w)
 
-  pub adding_start : stop ≤ length part → (p : Sum ℕ) → Adding part stop p p
-  adding_start h p = record { k = length part; enough = omega arith; is = refl }
-
-  pub adding_on : {p₀ p : Sum ℕ} → Adding part stop p₀ p → (w : Adds part stop p) → Adding part stop p₀ (further p w.g w.l)
-  adding_on {p₀} {p} v w = go v.k v.enough v.is
-    where
-      go : (k : ℕ) → stop ≤ p.at + k → add_from (length part) part stop p₀ ≡ add_from k part stop p → Adding part stop p₀ (further p w.g w.l)
-      go zero h e = absurd (omega (arith, w.before_stop))
-      go (suc k) h e = record { k = k; enough = omega (arith, adds_byte w); is = e ∙ add-on k w }
-
-  -- the same where the posting is given as it was decoded
-  pub adding_more : {p₀ p : Sum ℕ} → Adding part stop p₀ p → p.at < stop → {d : Decoded}
-      → decoded (drop p.at part) ≡ Some d → Adding part stop p₀ (further p d.gap d.length)
-  adding_more v h {d} e =
-      adding_on v (record { g = d.gap; f = d.count; l = d.length; before_stop = h; found = e })
-
-  pub adding_ends : {p₀ p : Sum ℕ} → Adding part stop p₀ p → Ends part stop p → p ≡ added_to part stop p₀
+  pub added_ends : {p : Sum ℕ} → Ends part stop p → added_to part stop p ≡ p
   unfolding added_to
-  adding_ends v e = sym (v.is ∙ add-ends v.k e)
+  added_ends e = add-ends (length part) e
+
+  pub added_on : stop ≤ length part → {p : Sum ℕ} (w : Adds part stop p) → added_to part stop p ≡ added_to part stop (further p w.g w.l)
+  unfolding added_to
+  added_on h {p} w = add_enough (length part) (suc (length part)) p (omega arith) (omega arith) ∙ add-on (length part) w
+
+  -- a posting more completes the sum too, and where none is left it is whole
+  pub completes_more : stop ≤ length part → {from p : Sum ℕ} → Completes part stop from p → p.at < stop → {d : Decoded}
+      → decoded (drop p.at part) ≡ Some d → Completes part stop from (further p d.gap d.length)
+  completes_more h v i {d} e =
+      let w = added_on h (record { g = d.gap; f = d.count; l = d.length; before_stop = i; found = e }) in
+      record { sum = sym w ∙ v.sum }
+
+  pub completes_all : {from p : Sum ℕ} → Completes part stop from p → Ends part stop p → p ≡ added_to part stop from
+  completes_all v e = sym (added_ends e) ∙ v.sum
+
+-- a loop of single steps
+pub ruleset by_posting = (sized, completes_more, completes_all)
 
 -- ---- in two parts
 
-module _ (part : List ℕ) (stop end : ℕ) (h : stop ≤ end) where
+module _ (part : List ℕ) (stop end : ℕ) (h : stop ≤ end) (i : end ≤ length part) where
   sooner : {p : Sum ℕ} → Adds part stop p → Adds part end p
   sooner w = record { g = w.g; f = w.f; l = w.l; before_stop = omega (arith, w.before_stop); found = w.found }
 
-  two_parts : (k m : ℕ) (p : Sum ℕ) → end ≤ p.at + m → add_from m part end (add_from k part stop p) ≡ add_from m part end p
+  two_parts : (k : ℕ) (p : Sum ℕ) → added_to part end (add_from k part stop p) ≡ added_to part end p
   unfolding add_from sooner
-  two_parts zero m p i = refl
-  two_parts (suc k) m p i = go (adds-or-ends part stop p) m i (λ m q. two_parts k m q)
+  two_parts zero p = refl
+  two_parts (suc k) p = go (adds-or-ends part stop p) (λ q. two_parts k q)
     where
-      go : Adds part stop p ⊎ Ends part stop p → (m : ℕ) → end ≤ p.at + m
-          → ((m : ℕ) (q : Sum ℕ) → end ≤ q.at + m → add_from m part end (add_from k part stop q) ≡ add_from m part end q)
-          → add_from m part end (add_from (suc k) part stop p) ≡ add_from m part end p
-      go (inr e) m i ih = ap (add_from m part end) (add-ends part stop (suc k) e)
-      go (inl w) zero i ih = absurd (omega (arith, w.before_stop))
-      go (inl w) (suc m) i ih =
-          let q = further p w.g w.l in
-          let l = adds_byte part stop w in
-          ap (add_from (suc m) part end) (add-on part stop k w)
-          ∙ ih (suc m) q (omega arith)
-          ∙ add_enough part end (suc m) m q (omega arith) (omega arith)
-          ∙ sym (add-on part end m (sooner w))
+      go : Adds part stop p ⊎ Ends part stop p → ((q : Sum ℕ) → added_to part end (add_from k part stop q) ≡ added_to part end q)
+          → added_to part end (add_from (suc k) part stop p) ≡ added_to part end p
+      go (inr e) ih = ap (added_to part end) (add-ends part stop (suc k) e)
+      go (inl w) ih = ap (added_to part end) (add-on part stop k w) ∙ ih (further p w.g w.l) ∙ sym (added_on part end i (sooner w))
 
-pub added_in_two : (part : List ℕ) (stop end : ℕ) → stop ≤ end → end ≤ length part → (p : Sum ℕ) → added_to part end (added_to part stop p) ≡ added_to part end p
-unfolding added_to
-added_in_two part stop end h i p = two_parts part stop end h (length part) (length part) p (omega arith)
+  pub added_in_two : (p : Sum ℕ) → added_to part end (added_to part stop p) ≡ added_to part end p
+  added_in_two p = rw (added_is part stop p) (two_parts (length part) p)
+
+  -- so the first part completes the sum
+  pub completes_up : {p q : Sum ℕ} → added_to part stop p ≡ q → Completes part end p q
+  completes_up {p} e = record { sum = rw (← e) (added_in_two p) }
+
+pub completes_on : {part : List ℕ} {stop : ℕ} {p q r : Sum ℕ} → Completes part stop p q → Completes part stop q r → Completes part stop p r
+completes_on v w = record { sum = w.sum ∙ v.sum }
+
+-- a loop of parts
+pub ruleset by_part = (completes_up, completes_on)
 
 -- ---- numbers
 
 module _ (part : List ℕ) (stop : ℕ) where
-  abbrev add : ℕ → Sum ℕ → Sum ℕ
-  add k p = add_from k part stop p
-
   -- numbers only grow
-  pub add_grows : (k : ℕ) (p : Sum ℕ) → p.number ≤ (add k p).number
-  unfolding add_from
+  pub add_grows : (k : ℕ) (p : Sum ℕ) → p.number ≤ (add_from k part stop p).number
+  unfolding add_from add_one
   add_grows zero p = omega arith
-  add_grows (suc k) p = go (adds-or-ends part stop p) (λ q. add_grows k q)
+  add_grows (suc k) p = go (ltb p.at stop) (decoded (drop p.at part)) (λ q. add_grows k q)
     where
-      go : Adds part stop p ⊎ Ends part stop p → ((q : Sum ℕ) → q.number ≤ (add k q).number) → p.number ≤ (add (suc k) p).number
-      go (inl w) ih = rw (add-on part stop k w) (omega (arith, ih (further p w.g w.l)))
-      go (inr e) ih = rw (add-ends part stop (suc k) e) (omega arith)
+      go : (x : Bool) (y : Option Decoded) → ((q : Sum ℕ) → q.number ≤ (add_from k part stop q).number)
+          → p.number ≤ (cond x (add_one (add_from k part stop) p y) p).number
+      go false y ih = omega arith
+      go true None ih = omega arith
+      go true (Some d) ih = omega (arith, ih (further p d.gap d.length))
 
--- ---- bounds
+  -- how many postings were counted before does not matter
+  abbrev number_of : ℕ → ℕ → ℕ → ℕ → ℕ
+  number_of k at number c = (add_from k part stop (record { at = at; number = number; postings = c })).number
 
--- how many postings were counted before does not matter
-any-count : (part : List ℕ) (stop k at number c d : ℕ)
-    → (add_from k part stop (record { at = at; number = number; postings = c })).number ≡ (add_from k part stop (record { at = at; number = number; postings = d })).number
-unfolding add_from
-any-count part stop zero at number c d = refl
-any-count part stop (suc k) at number c d =
-    go (adds-or-ends part stop (record { at = at; number = number; postings = c })) (λ at number c d. any-count part stop k at number c d)
-  where
-    p : ℕ → Sum ℕ
-    p c = record { at = at; number = number; postings = c }
+  any-count : (k at number c d : ℕ) → number_of k at number c ≡ number_of k at number d
+  unfolding add_from add_one
+  any-count zero at number c d = refl
+  any-count (suc k) at number c d = go (ltb at stop) (decoded (drop at part)) (λ at number. any-count k at number (c + 1) (d + 1))
+    where
+      rest : ℕ → Option Decoded → Sum ℕ
+      rest c = add_one (add_from k part stop) (record { at = at; number = number; postings = c })
 
-    go : Adds part stop (p c) ⊎ Ends part stop (p c)
-        → ((at number c d : ℕ) → (add_from k part stop (record { at = at; number = number; postings = c })).number ≡ (add_from k part stop (record { at = at; number = number; postings = d })).number)
-        → (add_from (suc k) part stop (p c)).number ≡ (add_from (suc k) part stop (p d)).number
-    go (inr (at_stop h)) ih = ap (λ (x : Sum ℕ). x.number) (add-ends part stop (suc k) {p = p c} (at_stop h)) ∙ sym (ap (λ (x : Sum ℕ). x.number) (add-ends part stop (suc k) {p = p d} (at_stop h)))
-    go (inr (no_posting e)) ih =
-        ap (λ (x : Sum ℕ). x.number) (add-ends part stop (suc k) {p = p c} (no_posting e)) ∙ sym (ap (λ (x : Sum ℕ). x.number) (add-ends part stop (suc k) {p = p d} (no_posting e)))
-    go (inl w) ih =
-        let v : Adds part stop (p d) = record { g = w.g; f = w.f; l = w.l; before_stop = w.before_stop; found = w.found } in
-        ap (λ (x : Sum ℕ). x.number) (add-on part stop k w) ∙ ih (at + w.l) (number + w.g) (c + 1) (d + 1) ∙ sym (ap (λ (x : Sum ℕ). x.number) (add-on part stop k v))
+      go : (x : Bool) (y : Option Decoded) → ((at number : ℕ) → number_of k at number (c + 1) ≡ number_of k at number (d + 1))
+          → (cond x (rest c y) (record { at = at; number = number; postings = c })).number ≡ (cond x (rest d y) (record { at = at; number = number; postings = d })).number
+      go false y ih = refl
+      go true None ih = refl
+      go true (Some e) ih = ih (at + e.length) (number + e.gap)
 
 -- what bounds the number at every offset that is reached, posting by posting, bounds them all
 module _ (part : List ℕ) (reports : ℕ) (P : ℕ → ℕ → Type 0)
@@ -216,10 +206,7 @@ module _ {part : List ℕ} {reports at n : ℕ} (b : Bounded part reports at n) 
   unfolding added_to
   bounded_on {g} {f} {l} h e =
       let w : Adds part (length part) (sum_of at n) = record { g = g; f = f; l = l; before_stop = h; found = e } in
-      let z = adds_byte part (length part) w in
-      let x : Sum ℕ = further (sum_of at n) g l in
-      let y : add_from (length part) part (length part) (sum_of at n) ≡ add_from (length part) part (length part) x
-      = add_enough part (length part) (length part) (suc (length part)) (sum_of at n) (omega arith) (omega arith) ∙ add-on part (length part) (length part) w in
+      let y = added_on part (length part) (omega arith) w in
       record { last = omega (arith, b.last, ap (λ (z : Sum ℕ). z.number) y, any-count part (length part) (length part) (at + l) (n + g) 1 0) }
 
   pub bounded_more : (more : ℕ) → reports ≤ more → Bounded part more at n

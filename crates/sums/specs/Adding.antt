@@ -1,5 +1,5 @@
 -- Adding up the postings of a part, whatever reports there are.
-use Rattle.std.specs.Prelude.{ℕ, zero, suc, ◌+◌, ◌*◌, ◌≤◌, List, Option, Some, None, cond, ltb, length, drop}
+use Rattle.std.specs.Prelude.{ℕ, zero, suc, ◌+◌, ◌*◌, ◌≤◌, ◌≡◌, List, Option, Some, None, cond, ltb, length, drop}
 use Rattle.postings.specs.Coding.{decoded}
 use Rattle.postings.specs.declared.Decoded.{Decoded}
 use Rattle.sums.specs.declared.Sum.{Sum}
@@ -27,12 +27,20 @@ add_from (suc fuel) part stop p =
 unfoldable pub added_to : List ℕ → ℕ → Sum ℕ → Sum ℕ
 added_to part stop p = add_from (length part) part stop p
 
+-- adding up from `from` on has come to p: what is added up from there on completes the sum
+pub record Completes (part : List ℕ) (stop : ℕ) (from p : Sum ℕ) : Type 0 where
+  pub sum : added_to part stop p ≡ added_to part stop from
+
 -- from offset `at` on, behind the posting of that number, no number of the part is over `reports`: the last one is the
 -- largest
 pub record Bounded (part : List ℕ) (reports at number : ℕ) : Type 0 where
   pub last : (added_to part (length part) (sum_of at number)).number ≤ reports
 
+-- a part has fewer than 2 ^ 32 bytes, so that the number that its gaps lead to has at most 64 bits
+abbrev pub max_part : ℕ
+max_part = 4294967295
+
 -- a posting takes a byte or more, and its gap has 32 bits
 pub record Small (p : Sum ℕ) : Type 0 where
-  pub number_in : p.number ≤ 4294967296 * (p.at + 1)
+  pub number_in : p.number ≤ 4294967295 * (p.at + 1)
   pub postings_in_lem : p.postings ≤ p.at

@@ -3,7 +3,7 @@
 #![tactic(auto)]
 
 ghost use Rattle.std.specs.Prelude.{◌≡◌, IfSome, sum, ◌+◌, ◌≤◌, ◌<◌, length};
-ghost use Rattle.sums.specs.Adding.{sum_of, added_to, Small};
+ghost use Rattle.sums.specs.Adding.{max_part, sum_of, added_to, Completes, Small};
 ghost use Rattle.sums.specs.Rows.{is_second, gap_of, mark_of, gap_at, mark_at, lane, Lane, Rows};
 
 // The offset behind the last posting, the number that the gaps lead to, whatever reports there are, and how many
@@ -16,8 +16,9 @@ pub struct Sum<N> {
 }
 
 // Adds up the postings that start before offset `stop`, or those before one that is not sound.
+#[tactic(auto, using(crate::proofs::Adding::by_posting))]
 fn add_up(part: &[u8], from: Sum<u64>, stop: usize) -> Sum<u64>
-    requires { (stop ≤ length part.now) × (length part.now ≤ 64) × Small from }
+    requires { (stop ≤ length part.now) × (length part.now ≤ max_part) × Small from }
     ensures { (result ≡ added_to part.now stop from) × Small result }
 {
     let mut sum = from;
@@ -50,19 +51,15 @@ fn gap_of(b: u8, q: u8, p: u8) -> u8
     if is_second(q, p) { 0 } else { b.div_ceil(4) }
 }
 
-// What it adds to the number of postings: 1 where it starts a code, and 64, more than a part has, where it does not
+// What it adds to the number of postings: 1 where it starts a code, and 64, more than the rows have, where it does not
 // fit.
 #[tactic(auto, unfolding(crate::specs::Rows::mark_of, crate::specs::Rows::is_fit, crate::specs::Rows::is_second))]
 fn mark_of(b: u8, q: u8, p: u8) -> u8
     ensures { result ≡ mark_of b q p }
 {
-    if b == 0 || 127 < b {
-        return 64;
-    }
-    if is_second(q, p) {
-        return 0;
-    }
-    if q % 4 == 0 && b % 4 == 0 { 64 } else { 1 }
+    let starts = if is_second(q, p) { 0 } else { 1 };
+    let fits = 0 < b && b < 128 && (b % 4 != 0 || q % 4 != 0 || p % 4 != 0);
+    if fits { starts } else { 64 }
 }
 
 // The bytes at one place of the three rows together, for each of the sixteen places.
@@ -72,25 +69,26 @@ pub struct Lanes {
     pub marks: [u8; 16],
 }
 
-// A turn is the same for all places and takes nothing over from the turn before: so the compiler makes one of all
-// sixteen. With the three bytes of a row read in a function of their own it does not.
+// The lanes of a window: two bytes, and the three rows behind them. A turn is the same for all places and takes nothing
+// over from the turn before: so the compiler makes one of all sixteen. With the three bytes of a row read in a function
+// of their own it does not.
 #[tactic(auto, using(crate::proofs::Bytes::gap_le, crate::proofs::Bytes::mark_le))]
-fn lanes_of(part: &[u8]) -> Lanes
-    requires { length part.now ≡ 64 }
-    ensures { Lane (gap_at part.now) result.gaps × Lane (mark_at part.now) result.marks }
+fn lanes_of(window: &[u8]) -> Lanes
+    requires { length window.now ≡ 50 }
+    ensures { Lane (gap_at window.now) result.gaps × Lane (mark_at window.now) result.marks }
 {
     let mut gaps = [0u8; 16];
     let mut marks = [0u8; 16];
     for i in 0..16 {
-        let p = part[i + 14];
-        let q = part[i + 15];
-        let b = part[i + 16];
-        let p2 = part[i + 30];
-        let q2 = part[i + 31];
-        let b2 = part[i + 32];
-        let p3 = part[i + 46];
-        let q3 = part[i + 47];
-        let b3 = part[i + 48];
+        let p = window[i];
+        let q = window[i + 1];
+        let b = window[i + 2];
+        let p2 = window[i + 16];
+        let q2 = window[i + 17];
+        let b2 = window[i + 18];
+        let p3 = window[i + 32];
+        let q3 = window[i + 33];
+        let b3 = window[i + 34];
         gaps[i] = gap_of(b, q, p) + gap_of(b2, q2, p2) + gap_of(b3, q3, p3);
         marks[i] = mark_of(b, q, p) + mark_of(b2, q2, p2) + mark_of(b3, q3, p3);
     }
@@ -103,53 +101,80 @@ fn total_of(lanes: &[u8; 16]) -> u32
     lanes.iter().map(|n| u32::from(*n)).sum()
 }
 
-// What the last 48 bytes of a whole block add up to.
+// What three rows add up to.
 #[derive(Clone, Copy)]
 pub struct RowSum {
     pub gaps: u32,
     pub postings: u32,
 }
 
-// The last 48 bytes of a whole block, where they are codes of single bytes. A code starts at offset 16, its byte before
-// being no first byte of two; and the last byte is none either, so that a byte behind it would be no second one.
-fn read_rows(part: &[u8]) -> Option<RowSum>
-    requires { length part.now ≡ 64 }
-    ensures { IfSome result (λ r. Rows part.now r) }
+// How many bytes three rows have.
+const ROWS: usize = 48;
+
+// The rows from offset `at` on, where they are codes of single bytes. By the look of the two bytes before it a code
+// starts there, and the last byte leaves none open: a byte behind it would be no second one.
+fn read_rows(part: &[u8], at: usize) -> Option<RowSum>
+    ensures { IfSome result (λ r. Rows part.now at r) }
 {
-    if part[15] % 4 == 0 || is_second(part[63], part[62]) {
+    if at < 2 || part.len().saturating_sub(at) < ROWS {
         return None;
     }
-    let lanes = lanes_of(part);
+    let window = &part[at - 2..at + ROWS];
+    if is_second(window[1], window[0]) || is_second(window[49], window[48]) {
+        return None;
+    }
+    let lanes = lanes_of(window);
     let postings = total_of(&lanes.marks);
-    if 64 <= postings {
+    let gaps = total_of(&lanes.gaps);
+    // more than one for each byte: one of them does not fit
+    if 48 < postings {
         return None;
     }
-    Some(RowSum {
-        gaps: total_of(&lanes.gaps),
-        postings,
-    })
+    Some(RowSum { gaps, postings })
 }
 
-// Adds up all postings of a part from offset `at` on, behind the posting of that number.
+// Adds up posting by posting to `stop`, and from there on by rows, as long as they can be told.
+#[tactic(auto, using(crate::proofs::Adding::by_part))]
+fn add_rows(part: &[u8], from: Sum<u64>, stop: usize) -> Sum<u64>
+    requires { (stop ≤ length part.now) × (length part.now ≤ max_part) × Small from }
+    ensures { Completes part.now (length part.now) from result × Small result }
+{
+    // a sum of its own, which stays in registers while rows are added
+    let front = add_up(part, from, stop);
+    let mut sum = front;
+    while let Some(rows) = read_rows(part, sum.at) {
+        sum.at += ROWS;
+        sum.number += u64::from(rows.gaps);
+        sum.postings += rows.postings;
+    }
+    sum
+}
+
+// Adds up all postings of a part from offset `at` on, behind the posting of that number: by rows, from the first code
+// that has two bytes before it. Where rows cannot be told their bytes are added up posting by posting, and then rows
+// again. What is left in the end is added up posting by posting too: fewer bytes than rows have, or fewer than twice as
+// many where rows cannot be told.
 pub fn add_all(part: &[u8], at: usize, number: u32) -> Sum<u64>
-    requires { length part.now ≤ 64 }
+    requires { length part.now ≤ max_part }
     ensures { result ≡ added_to part.now (length part.now) (sum_of at number) }
 {
+    let n = part.len();
     let none = Sum {
         at,
         number: u64::from(number),
         postings: 0,
     };
-    let n = part.len();
-    let front = add_up(part, none, n.min(16));
-    if front.at == 16 && n == 64 {
-        if let Some(rows) = read_rows(part) {
-            return Sum {
-                at: 64,
-                number: front.number + u64::from(rows.gaps),
-                postings: front.postings + rows.postings,
-            };
+    if n.saturating_sub(at) < ROWS {
+        return add_up(part, none, n);
+    }
+    let mut sum = add_rows(part, none, 2);
+    while 2 * ROWS <= n.saturating_sub(sum.at) {
+        let stop = sum.at + ROWS;
+        sum = add_rows(part, sum, stop);
+        // where no posting is decoded the sum is whole
+        if sum.at < stop {
+            break;
         }
     }
-    add_up(part, front, n)
+    add_up(part, sum, n)
 }

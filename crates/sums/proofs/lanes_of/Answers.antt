@@ -5,7 +5,7 @@ use Rattle.sums.proofs.lanes_of.Goals as goal
 
 pub loop-i-preserved : goal.loop-i-preserved
 loop-i-preserved c =
-    let s = c.args.part.now in
+    let s = c.args.window.now in
     let i = c.loop-i.i in
     record {
       gaps = filled_more (gap_at s) _ c.loop-i.invariant.gaps c.loop-i-test.true (cc (gap_lane s i));

@@ -5,6 +5,6 @@ use Rattle.sums.proofs.lanes_of.Given as goal
 
 abbrev pub invariant-loop-i : goal.invariant-loop-i
 invariant-loop-i l = record {
-  gaps : Filled (gap_at l.part) l.gaps l.i;
-  marks : Filled (mark_at l.part) l.marks l.i;
+  gaps : Filled (gap_at l.window) l.gaps l.i;
+  marks : Filled (mark_at l.window) l.marks l.i;
 }
