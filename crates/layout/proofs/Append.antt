@@ -27,20 +27,21 @@ use Rattle.layout.proofs.Bytes.{fields_at, fields, offset_in, bytes_in, bytes-gr
 use Rattle.layout.proofs.Linked.{joined_is, by-joined, mine, other}
 use Rattle.layout.proofs.Standing.{Standing, nos_pos, tail_lt, head-is, tail_link}
 use Rattle.layout.proofs.Image.{same_test, other_test, standing}
+use Rattle.blocks.proofs.Sizes.{sizes}
 
 -- ---- what is stored lies in a block
 
 growing_fits : (last postings end : ℕ) → 8 + length (growing last postings end) ≤ block_size
 unfolding word
-growing_fits last postings end = omega arith
+growing_fits last postings end = omega (arith, sizes)
 
 fields_fit : (tail last postings end : ℕ) → 4 + length (changing tail last postings end) ≤ block_size
 unfolding changing word
-fields_fit tail last postings end = omega arith
+fields_fit tail last postings end = omega (arith, sizes)
 
 length_new : (n : ℕ) (c : List ℕ) → length c ≤ 10 → length (padded (word n ++ c)) ≡ block_size
 unfolding word
-length_new n c h = length-padded (word n ++ c) (omega arith)
+length_new n c h = length-padded (word n ++ c) (omega (arith, sizes))
 
 -- ---- the arena's length is kept
 
@@ -79,7 +80,7 @@ module _ (a : List ℕ) (h : ℕ) (t : Held) (p : Posting) where
           first,
           store_block (sets a₁ (place used) new) h 4 _ k (fields_fit _ _ _ _),
           store_front a₁ used new k (omega (arith, length_new p.number c small)),
-          store_front a (tail_no t) (word used) k (unfold word in omega arith),
+          store_front a (tail_no t) (word used) k (unfold word in omega (arith, sizes)),
         )
 
 -- ---- a term that stands in the arena
@@ -153,7 +154,7 @@ module _ (a : List ℕ) (ix : Index) (i : ℕ) (p : Posting) (im : Image a ix) (
         inside = rw (length_writes a (used_of ix) (term_at ix i) p st b) room;
         bytes = λ k h. by-joined b ix.owners _ k h (λ lt. rw (joined_is b ix.owners _ no_owner k lt) (writes_old b e k lt))
             (λ q z. rw (q, z, get_or-last ix.owners (record { term = i; ord = length (term_at ix i).nos }) no_owner, mine false ix i p hi)
-            (writes_new a (used_of ix) (term_at ix i) p st f (e ∙ q) (omega (arith, rw (q, length-append) at room))));
+            (writes_new a (used_of ix) (term_at ix i) p st f (e ∙ q) (omega (arith, sizes, rw (q, length-append) at room))));
       }
 
   -- ONE POSTING MORE

@@ -15,6 +15,7 @@ use Rattle.basics.proofs.Cases.{by-lt}
 use Rattle.basics.proofs.Parts.{drop-take, take-before, drop-behind, take-sets, drop-sets}
 use Rattle.blocks.specs.Fields.{block_size, place}
 use Rattle.layout.specs.Index.{block_at}
+use Rattle.blocks.proofs.Sizes.{sizes}
 
 pub length_block : (a : List ℕ) (b : ℕ) → place b + block_size ≤ length a → length (block_at a b) ≡ block_size
 unfolding block_at
@@ -28,8 +29,8 @@ unfolding block_at
 store_other a b c o vs h ne =
     by-lt c b
     (λ lt. let e : place b + o ≡ place c + (place (b - c) + o) = omega arith in
-    rw (e, drop-sets (place c) a (place (b - c) + o) vs) (take-before block_size (drop (place c) a) (place (b - c) + o) vs (omega arith)))
-    (λ ge. rw (drop-behind (place c) a (place b + o) vs (omega arith)))
+    rw (e, drop-sets (place c) a (place (b - c) + o) vs) (take-before block_size (drop (place c) a) (place (b - c) + o) vs (omega (arith, sizes))))
+    (λ ge. rw (drop-behind (place c) a (place b + o) vs (omega (arith, sizes))))
 
 -- and is a store into the block itself
 pub store_same : (a : List ℕ) (b o : ℕ) (vs : List ℕ) → o + length vs ≤ block_size → block_at (sets a (place b + o) vs) b ≡ sets (block_at a b) o vs

@@ -15,6 +15,7 @@ use Rattle.blocks.specs.Fields.{block_size, head_fixed, link_size}
 use Rattle.blocks.specs.Prescribed.{Posting, Reach, opened, onward, reached, prescribed}
 use Rattle.chains.specs.Chains.{last_from}
 use Rattle.layout.specs.Chains.{After, Rising, none, next, Entry, coded, codes, Block, entries, d_entry, b_entry, Chain, begun, stays, put_as, put, puts, blocks, block_in}
+use Rattle.blocks.proofs.Sizes.{sizes}
 
 -- ---- numbers restored from gaps
 
@@ -178,7 +179,7 @@ module _ {start : ℕ} {ps : List Posting} {c : Chain} {p : Posting} (h : Holds 
         last_in_lem = rw (onward-next r p e) (unfold last_in in refl);
         fits = λ j g. by-lt n j
             (λ gt. let q : j ≡ suc n = omega arith in
-            rw (q, get_or-eq_default (blocks c) t {n = suc n} (omega arith), codes-one d) (omega arith))
+            rw (q, get_or-eq_default (blocks c) t {n = suc n} (omega (arith, sizes)), codes-one d) (omega (arith, sizes)))
             (λ le. rw (get_or-snoc c.closed j c.tail t le) (h.fits j le));
       }
 
@@ -204,7 +205,7 @@ module _ {start : ℕ} where
         offset_is = rw codes-one;
         first_in_lem = omega arith;
         last_in_lem = refl;
-        fits = λ j h. let z : j ≡ 0 = omega arith in rw (z, codes-one) (omega (arith, length-code_le p.number p.count (omega arith) (omega arith)));
+        fits = λ j h. let z : j ≡ 0 = omega (arith, sizes) in rw (z, codes-one) (omega (arith, sizes, length-code_le p.number p.count (omega (arith, sizes)) (omega (arith, sizes))));
       }
 
   -- THE CHAIN OF RISING POSTINGS holds them

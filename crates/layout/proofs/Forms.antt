@@ -19,6 +19,7 @@ use Rattle.blocks.specs.Writes.{padded, growing, changing}
 use Rattle.layout.specs.Held.{form}
 use Rattle.layout.proofs.Chains.{start_at}
 use Rattle.layout.proofs.Arena.{store_if}
+use Rattle.blocks.proofs.Sizes.{sizes}
 
 -- ---- a cleared block
 
@@ -36,8 +37,8 @@ padded_more s t h =
 pub length-form : (j link : ℕ) (d : Head) (name x : List ℕ) → length (form j link d name x) ≡ start_at (head_fixed + length name) j + length x
 unfolding form word changing
 length-form zero link d name x =
-    rw (length-append (word link ++ changing d.tail d.last d.postings d.end ++ (length name ∷ []) ++ name) x) (omega arith)
-length-form (suc j) link d name x = omega arith
+    rw (length-append (word link ++ changing d.tail d.last d.postings d.end ++ (length name ∷ []) ++ name) x) (omega (arith, sizes))
+length-form (suc j) link d name x = omega (arith, sizes)
 
 -- bytes behind a form
 form_more : (j link : ℕ) (d : Head) (name x c : List ℕ) → form j link d name x ++ c ≡ form j link d name (x ++ c)
@@ -72,7 +73,7 @@ module _ (link : ℕ) (d : Head) (name x : List ℕ) where
   length-name-form = refl
 
   pub name-form : take (length name) (drop head_fixed (padded (form 0 link d name x))) ≡ name
-  unfolding padded form word changing
+  unfolding padded form word changing head_fixed
   name-form =
       let z : List ℕ = replicate (block_size - length (form 0 link d name x)) 0 in
       ap (take (length name)) (append_assoc name x z) ∙ take_at name (x ++ z) (length name) refl

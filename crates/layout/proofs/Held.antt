@@ -16,6 +16,7 @@ use Rattle.layout.specs.Chains.{After, none, next, coded, d_entry, b_entry, begu
 use Rattle.layout.specs.Held.{Held, postings_of, tail_no, start_of, chain, head_for}
 use Rattle.layout.specs.Index.{Sound, fresh, grown}
 use Rattle.layout.proofs.Chains.{Holds, rising_snoc, onward-stays, onward-next, holds-chain, reach-puts, puts-snoc, blocks-prescribed}
+use Rattle.blocks.proofs.Sizes.{sizes}
 
 -- ---- the chain
 
@@ -34,7 +35,7 @@ blocks_is t = rw (chain-reach t)
 module _ {used : ℕ} {t : Held} (s : Sound used t) where
   pub chain-holds : Holds (start_of t) (postings_of t) (chain t)
   unfolding chain
-  chain-holds = holds-chain (omega (arith, s.short)) s.rises
+  chain-holds = holds-chain (omega (arith, sizes, s.short)) s.rises
 
   pub nos-closed : length t.nos ≡ suc (tail_at t)
   unfolding chain

@@ -14,6 +14,7 @@ use Rattle.layout.specs.Held.{head_no}
 use Rattle.layout.specs.Index.{Index, Owner, term_at, owner_at, no_at, used_of, Linked, block_at, Image, empty}
 use Rattle.layout.proofs.Held.{nos-closed}
 use Rattle.layout.proofs.Standing.{Standing}
+use Rattle.blocks.proofs.Sizes.{sizes}
 
 -- ---- the block numbers of a linked index
 
@@ -67,6 +68,6 @@ pub image_same : {a b : List ℕ} (ix : Index) → Image a ix → Image b ix →
 unfolding block_at
 image_same ix i j zero h = refl
 image_same {a} {b} ix i j (suc n) h =
-    let e : place (suc n) ≡ place n + block_size = omega arith in
+    let e : place (suc n) ≡ place n + block_size = omega (arith, sizes) in
     let one : take block_size (drop (place n) a) ≡ take block_size (drop (place n) b) = i.bytes n (omega arith) ∙ sym (j.bytes n (omega arith)) in
     rw (e, take-add (place n) block_size a, take-add (place n) block_size b) (ap₂ ◌++◌ (image_same ix i j n (omega arith)) one)

@@ -24,6 +24,7 @@ use Rattle.layout.specs.Index.{Index, term_at, owner_at, used_of, Linked, block_
 use Rattle.layout.proofs.Arena.{length_block, store_if, store_front}
 use Rattle.layout.proofs.Bytes.{bytes-fresh}
 use Rattle.layout.proofs.Linked.{keeps-term, old_term, new_term, new_owner, used-term}
+use Rattle.blocks.proofs.Sizes.{sizes}
 
 pub open_length : (a : List ℕ) (b : ℕ) (name : List ℕ) (n f : ℕ) → length (open_head a b name n f) ≡ length a
 unfolding open_head
@@ -34,7 +35,7 @@ unfolding head_bytes word changing
 length-head b name p h f =
     let c : List ℕ = code p.number p.count in
     let front : List ℕ = word p.number ++ changing b p.number 1 (head_fixed + length name + length c) ++ (length name ∷ []) ++ name in
-    length-padded (front ++ c) (rw (length-append front c) (omega (arith, length-code_le p.number p.count (omega arith) (omega arith))))
+    length-padded (front ++ c) (rw (length-append front c) (omega (arith, sizes, length-code_le p.number p.count (omega (arith, sizes)) (omega (arith, sizes)))))
 
 module _ (a : List ℕ) (ix : Index) (name : List ℕ) (p : Posting) (im : Image a ix) (l : Linked ix) (h : length name ≤ max_term) (f : After 0 p) where
   open_block : (k : ℕ) → block_at (open_head a (used_of ix) name p.number p.count) k
@@ -65,5 +66,5 @@ module _ (a : List ℕ) (ix : Index) (name : List ℕ) (p : Posting) (im : Image
       record {
         inside = rw (open_length a (used_of ix) name p.number p.count) room;
         bytes = λ k g. by-lt k (used_of ix) (open_old k)
-            (λ ge. let q : k ≡ used_of ix = omega (arith, used-term ix name p) in rw q (open_new (omega (arith, used-term ix name p))));
+            (λ ge. let q : k ≡ used_of ix = omega (arith, sizes, used-term ix name p) in rw q (open_new (omega (arith, sizes, used-term ix name p))));
       }
