@@ -1,5 +1,21 @@
 // Blocks of the arena (document 01, "Blocks"): the fields of a head, opening a head for a new term, adding a posting,
-// opening the next block.
+// opening the next block. Sizes and offsets stand in this crate alone; others ask for them.
+//
+//     head    0       4       8       12        16   17   18        18 + n                     64
+//             | link  | tail  | last  | postings | end | n  | term ...| postings ...  ... nulls |
+//
+//     other   0       4                                                                        64
+//             | link  | postings ...                                                  ... nulls |
+//
+//     OFFSET  SIZE  WHAT
+//     0       4     the next block's number; in the tail, the number of the block's first report
+//     4       4     head: the number of the tail block
+//     8       4     head: the last report of the chain
+//     12      4     head: how many postings the chain has
+//     16      1     head: the write offset in the tail, at most 64
+//     17      1     head: the length n of the term
+//     18      n     head: the folded term
+//     then          postings, up to the write offset in the tail, elsewhere to a null byte or the block's end
 #![tactic(auto, unfolding(crate::specs::Fields::block_size, crate::specs::Fields::head_fixed, crate::specs::Fields::link_size))]
 
 ghost use Rattle.std.specs.Prelude.{◌≡◌, true, [], ◌+◌, ◌-◌, ◌*◌, ◌≤◌, ◌<◌, length};

@@ -1,5 +1,13 @@
 // Double-VByte with threshold 4: a posting's gap and count as one or two values, each seven bits at a time, lowest
 // first.
+//
+//     a byte                         | another follows: 1 | seven bits of the value: 7 |
+//
+//     count below 4: one value       | gap - 1                              | count: 2 |
+//     count from 4 on: two values    | gap                                  | 0 0      |   then   | count - 3 |
+//
+// A value of 0 is never coded, so that a null byte stands in no code, and the last two bits of the first value tell
+// which of the two it is.
 #![tactic(auto)]
 
 ghost use Rattle.std.specs.Prelude.{◌≡◌, ℕ, IfSome, ◌+◌, ◌-◌, ◌≤◌, ◌<◌, ◌^◌, length, drop};
