@@ -249,7 +249,7 @@ pub fn pass<const JUDGED: bool>(
 // judged; only where that is over reports, so that the part is damaged, it is read again for the posting that is.
 #[tactic(auto, using(crate::proofs::Added::added_passed))]
 fn pass_all(part: &[u8], reports: u32, at: usize, number: u32) -> Passed
-    requires { (number ≤ reports) × (length part.now ≤ block_size) }
+    requires { (number ≤ reports) × (length part.now ≤ max_word) }
     ensures { result ≡ passed part.now reports at number reports }
 {
     let all = sums::add_all(part, at, number);
