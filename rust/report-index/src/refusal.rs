@@ -73,7 +73,7 @@ impl Refusal {
     }
 
     /// What went wrong, in plain words.
-    fn words(self) -> &'static str {
+    pub fn words(self) -> &'static str {
         match self {
             Refusal::Header => {
                 "the frame has fewer than 4 bytes, or its first byte, the version, is not 1"
