@@ -4,7 +4,7 @@ use report_index::frame::{MAX_BODY, MAX_REPORTS, MAX_TERM, MAX_TERMS, TERM_BYTES
 use report_index::Refusal;
 
 use crate::failure::Failure;
-use crate::words::{in_threes, text};
+use crate::words::{in_threes, shown};
 
 /// What was brought to the library.
 #[derive(Debug, Clone, Copy)]
@@ -122,12 +122,13 @@ fn wrong(term: &[u8]) -> Option<String> {
 
 /// A word for a message. Places count from 0, words from 1.
 fn word(place: usize, term: &[u8]) -> String {
-    let shown = if term.len() > MAX_TERM {
-        format!("{}…", text(&term[..SHOWN]))
+    let longest = if term.len() > MAX_TERM {
+        SHOWN
     } else {
-        text(term)
+        MAX_TERM
     };
-    format!("word {}, \"{shown}\"", place + 1)
+    let text: String = term.iter().copied().map(char::from).collect();
+    format!("word {}, \"{}\"", place + 1, shown(&text, longest))
 }
 
 #[cfg(test)]

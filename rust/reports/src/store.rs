@@ -263,7 +263,14 @@ impl Store {
             tell(errors, "waiting for another program that uses the file");
         };
         let opened = LogFile::open(&self.path, access, wait, waiting);
-        let Some(file) = opened.map_err(|error| self.fatal(error))? else {
+        let opened = opened.map_err(|error| match error.kind() {
+            ErrorKind::NotFound => self.fatal(format!(
+                "there is no such file; reports {} new makes one",
+                self.path.display()
+            )),
+            _ => self.fatal(error),
+        })?;
+        let Some(file) = opened else {
             return Err(self.fatal(format!(
                 "another program had it locked for {} s; nothing was done",
                 wait.as_secs_f64()

@@ -30,7 +30,7 @@ pub fn line(place: usize, word: &str) -> Result<(Vec<u8>, u32), Failure> {
     let Some(count) = number(count) else {
         return Err(Failure::Usage(format!(
             "word {place}, \"{}\": behind the last = stands no number from 0 to 4,294,967,295",
-            shown(word)
+            shown(word, LONGEST_SHOWN)
         )));
     };
     Ok((self::term(place, term)?, count))
@@ -42,7 +42,7 @@ pub fn term(place: usize, word: &str) -> Result<Vec<u8>, Failure> {
     bytes.map_err(|_| {
         Failure::Usage(format!(
             "word {place}, \"{}\", has a character that is not in ISO 8859-1",
-            shown(word)
+            shown(word, LONGEST_SHOWN)
         ))
     })
 }
@@ -94,20 +94,20 @@ pub fn in_threes(number: u64) -> String {
     text
 }
 
-/// A word for a message, on one line and not overlong.
-fn shown(word: &str) -> String {
+/// A word for a message: its first characters, with control characters replaced.
+pub fn shown(word: &str, longest: usize) -> String {
     let visible = |character: char| match character {
         character if character.is_control() => NO_CHARACTER,
         character => character,
     };
-    let mut text: String = word.chars().map(visible).take(LONGEST_SHOWN).collect();
-    if word.chars().nth(LONGEST_SHOWN).is_some() {
+    let mut text: String = word.chars().map(visible).take(longest).collect();
+    if word.chars().nth(longest).is_some() {
         text.push('…');
     }
     text
 }
 
-/// How many characters of a word a message shows.
+/// How many characters of a word that is not understood a message shows.
 const LONGEST_SHOWN: usize = 40;
 
 #[cfg(test)]
