@@ -90,6 +90,14 @@ impl LogFile {
     }
 }
 
+impl Drop for LogFile {
+    fn drop(&mut self) {
+        // Closing would free the lock too, but not while a process that is being started has a copy
+        // of all open files.
+        let _ = self.file.unlock();
+    }
+}
+
 impl Disk for LogFile {
     fn read(&mut self, from: u64) -> io::Result<Vec<u8>> {
         let mut bytes = Vec::new();
