@@ -51,7 +51,10 @@ pub const TERM_BYTES: RangeInclusive<u8> = 0x21..=0x7E;
 /// The most terms of a query for all of several terms. It names at least 1.
 pub const MAX_TERMS: usize = 8;
 
-/// The most reports that an index can number. Counts of terms go as far.
+/// The greatest count of a term. It is at least 1.
+pub const MAX_COUNT: u32 = u32::MAX;
+
+/// The most reports that an index can number.
 pub const MAX_REPORTS: u32 = u32::MAX;
 
 /// The frame of a report with these lines, a term and its count each.

@@ -1,6 +1,6 @@
 //! The proved library's memory: as large as the reports need, up to a limit.
 
-use report_index::{Counters, Index, Refusal, BLOCK_BYTES};
+use report_index::{Index, Refusal, BLOCK_BYTES};
 
 /// The bytes of an entry of the table.
 const ENTRY_BYTES: u64 = 4;
@@ -20,18 +20,22 @@ pub struct GrowingIndex {
 }
 
 impl GrowingIndex {
-    /// An empty index for the reports of a log of this many bytes. An arena as long as the log is
-    /// enough for most: a line of a report takes six bytes there beside its term, and one to ten in
-    /// an arena, but for the first of its term.
-    pub fn new(log_bytes: u64, limit: u64) -> GrowingIndex {
-        let (arena, entries) = first_size(log_bytes, limit);
-        let mut index = Index {
-            arena: vec![0; arena as usize],
-            table: vec![0; entries as usize],
-            counters: Counters::default(),
-        };
-        index.start();
+    /// An empty index, yet without memory.
+    pub fn new(limit: u64) -> GrowingIndex {
+        let index = Index::new(0, 0);
         GrowingIndex { index, limit }
+    }
+
+    /// Gives the index its first memory, for the reports of a log of this many bytes; nothing, where
+    /// it has memory. An arena as long as the log is enough for most: a line of a report takes at least
+    /// five bytes there beside its term, and one to ten in an arena, but for the first of its term.
+    pub fn give_memory(&mut self, log_bytes: u64) {
+        if self.index.arena.is_empty() {
+            let (arena, entries) = first_size(log_bytes, self.limit);
+            self.index.arena = vec![0; arena as usize];
+            self.index.table = vec![0; entries as usize];
+            self.index.start();
+        }
     }
 
     /// The index itself.
@@ -136,7 +140,8 @@ mod tests {
     #[test]
     fn memory_grows_up_to_the_limit() {
         for limit in [0, 68, 1_000, 100_000, 1_000_000] {
-            let mut index = GrowingIndex::new(0, limit);
+            let mut index = GrowingIndex::new(limit);
+            index.give_memory(0);
             let mut taken: Vec<Vec<u8>> = Vec::new();
             let refusal = loop {
                 let term = format!("term-{}", taken.len());

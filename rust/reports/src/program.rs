@@ -104,7 +104,7 @@ impl Arguments {
                 Some(("--memory", value)) => {
                     read.settings.memory = bytes(value_of("--memory", value, &mut arguments)?)?;
                 }
-                Some((option, _)) if option.starts_with("--") && read.rest.is_empty() => {
+                Some((option, _)) if option.starts_with('-') && read.rest.is_empty() => {
                     return Err(Failure::Usage(format!(
                         "there is no option {option}\n{USE}"
                     )));

@@ -47,7 +47,7 @@ pub fn run(store: &mut Store, streams: &mut Streams) -> Result<u8, Failure> {
             return Ok(DONE);
         }
         for line in waiting {
-            match answer(store, &line, streams.errors) {
+            match answer(store, &line, streams.errors, streams.progress) {
                 Ok(Asked::Answer(answer)) => {
                     print(streams.output, &answer)?;
                     tell_more(&answer, streams.errors);
@@ -61,7 +61,12 @@ pub fn run(store: &mut Store, streams: &mut Streams) -> Result<u8, Failure> {
 }
 
 /// Does what a line asks for.
-fn answer(store: &mut Store, line: &Line, errors: &mut dyn Write) -> Result<Asked, Failure> {
+fn answer(
+    store: &mut Store,
+    line: &Line,
+    errors: &mut dyn Write,
+    progress: bool,
+) -> Result<Asked, Failure> {
     let Line::Text(line) = line else {
         return Err(Failure::Usage("the line is too long".to_string()));
     };
@@ -77,7 +82,7 @@ fn answer(store: &mut Store, line: &Line, errors: &mut dyn Write) -> Result<Aske
     let mut around = Surroundings {
         input: None,
         errors,
-        progress: true,
+        progress,
     };
     perform(store, &call, &mut around).map(Asked::Answer)
 }

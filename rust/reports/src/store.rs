@@ -51,8 +51,8 @@ pub struct Store {
     log: Log,
     /// Reports that the index holds and the log does not yet.
     taken: Frames,
-    /// The index of the log's frames and then those taken. It is made when it is first needed.
-    index: Option<GrowingIndex>,
+    /// The index of the log's frames, as far as it was needed, and then those taken.
+    index: GrowingIndex,
     /// The torn end that was told last.
     told: Option<u64>,
 }
@@ -67,7 +67,7 @@ impl Store {
             identity: None,
             log: Log::default(),
             taken: Frames::default(),
-            index: None,
+            index: GrowingIndex::new(settings.memory),
             told: None,
         }
     }
@@ -134,14 +134,11 @@ impl Store {
 
     /// The index of all reports held and taken. Fails where this library refuses a held one.
     pub fn index(&mut self) -> Result<&Index, Failure> {
-        let (end, memory) = (self.log.end(), self.settings.memory);
-        let index = self
-            .index
-            .get_or_insert_with(|| GrowingIndex::new(end, memory));
-        let held = self.log.frames();
-        for place in index.reports()..held.len() {
+        let (held, memory) = (self.log.frames(), self.settings.memory);
+        self.index.give_memory(self.log.end());
+        for place in self.index.reports()..held.len() {
             let frame = held.get(place).unwrap_or_default();
-            match index.take(frame, held.iter().take(place)) {
+            match self.index.take(frame, held.iter().take(place)) {
                 Ok(number) if number as usize == place + 1 => {}
                 Ok(number) => {
                     return Err(Failure::Fatal(format!(
@@ -152,7 +149,7 @@ impl Store {
                 Err(refusal) => return Err(held_refused(place + 1, frame, refusal, memory)),
             }
         }
-        Ok(index.index())
+        Ok(self.index.index())
     }
 
     /// The number of the next report.
@@ -168,15 +165,13 @@ impl Store {
         brought: Brought,
     ) -> Result<u32, Failure> {
         self.index()?;
-        let memory = self.settings.memory;
         let taken = frame.and_then(|frame| {
             let earlier = self.log.frames().iter().chain(self.taken.iter());
-            let index = self.index.as_mut();
-            let number = index.map_or(Ok(0), |index| index.take(&frame, earlier))?;
+            let number = self.index.take(&frame, earlier)?;
             self.taken.push(&frame);
             Ok(number)
         });
-        taken.map_err(|refusal| brought.refused(refusal, memory))
+        taken.map_err(|refusal| brought.refused(refusal, self.settings.memory))
     }
 
     /// The frames of all reports, those taken and not written too.
@@ -212,7 +207,7 @@ impl Store {
         if !self.taken.is_empty() {
             self.taken.clear();
             // It holds what was taken. The next one is made of the log alone.
-            self.index = None;
+            self.index = GrowingIndex::new(self.settings.memory);
         }
     }
 
@@ -221,7 +216,7 @@ impl Store {
         let bytes = self.whole_file()?;
         self.log = Log::default();
         self.log.read_on(&bytes);
-        self.index = None;
+        self.index = GrowingIndex::new(self.settings.memory);
         self.check()
     }
 

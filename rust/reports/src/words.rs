@@ -3,6 +3,8 @@
 //! Text is UTF-8, and a character of a term is the byte that ISO 8859-1 gives to it: its number, where
 //! that is below 256.
 
+use report_index::frame::MAX_COUNT;
+
 use crate::failure::Failure;
 use crate::frames;
 
@@ -29,8 +31,9 @@ pub fn line(place: usize, word: &str) -> Result<(Vec<u8>, u32), Failure> {
     };
     let Some(count) = number(count) else {
         return Err(Failure::Usage(format!(
-            "word {place}, \"{}\": behind the last = stands no number from 0 to 4,294,967,295",
-            shown(word, LONGEST_SHOWN)
+            "word {place}, \"{}\": behind the last = stands no number from 0 to {}",
+            shown(word, LONGEST_SHOWN),
+            in_threes(MAX_COUNT.into())
         )));
     };
     Ok((self::term(place, term)?, count))
