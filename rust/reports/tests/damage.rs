@@ -3,7 +3,11 @@
 
 mod common;
 
-use common::{run_here, Folder};
+use std::fs;
+use std::io::{self, Read};
+use std::path::PathBuf;
+
+use common::{run_here, run_with, Folder};
 use reports::log::record::{Record, GROUP_GOES_ON, REPORT};
 use reports::log::{head, Finding, Log};
 
@@ -294,6 +298,76 @@ fn the_sound_part_is_recovered() {
     folder.write("season", &log()[1..]);
     folder.expect(4, &["season", "recover", "sound"], b"");
     assert_eq!(folder.names(), ["season"]);
+}
+
+/// An import of all or nothing is one group: cut anywhere, it is not held at all.
+#[test]
+fn an_import_of_all_or_nothing_is_held_as_a_whole() {
+    let folder = Folder::new();
+    folder.expect(0, &["season", "new"], b"");
+    folder.expect(0, &["season", "report", "zn"], b"");
+    let before = folder.read("season").len();
+    let lines = b"report zn=2\nreport zn=3\nreport zn=4\n";
+    folder.expect(0, &["season", "import", "--all-or-nothing"], lines);
+    let whole = folder.read("season");
+    assert_eq!(read(&whole).frames().len(), 4);
+    for length in before..whole.len() {
+        let cut = read(&whole[..length]);
+        assert_eq!(cut.frames().len(), 1, "cut after {length}");
+        assert_eq!(cut.end() as usize, before, "cut after {length}");
+    }
+    // Without the option, each report stands alone.
+    folder.expect(0, &["other", "new"], b"");
+    folder.expect(0, &["other", "import"], lines);
+    let other = folder.read("other");
+    assert_eq!(read(&other[..other.len() - 1]).frames().len(), 2);
+}
+
+/// On a pipe, what was read before is not read again, but for a verification.
+#[test]
+fn a_verification_reads_every_byte_again() {
+    let folder = Folder::new();
+    folder.write("season", &log());
+    let mut damaged = log();
+    damaged[head::BYTES + 20] ^= 1;
+    folder.write("lines", &damaged);
+    let (exit, out, errors) = run_here(&folder.file("season"), &[], b"last\nverify\n");
+    assert_eq!((exit, &errors[..]), (0, &b""[..]));
+    let sound = format!("sound: 5 reports, 4 terms, {} bytes", log().len());
+    let expected = format!("ok 1\n5\treport cu=256\nok 1\n{sound}\n");
+    assert_eq!(String::from_utf8(out).unwrap(), expected);
+    let mut input = Changing {
+        file: folder.file("season"),
+        bytes: damaged,
+        lines: vec![b"verify\n", b"last\n", b"last\n"],
+    };
+    let (exit, out, errors) = run_with(&folder.file("season"), &[], &mut input);
+    assert_eq!(exit, 4);
+    let twice = "ok 1\n5\treport cu=256\n".repeat(2);
+    assert_eq!(String::from_utf8(out).unwrap(), twice);
+    let errors = String::from_utf8(errors).unwrap();
+    assert!(
+        errors.contains("damaged at byte 16; the last sound report is 0"),
+        "{errors}"
+    );
+}
+
+/// An input that writes these bytes to the file before it gives the second line.
+struct Changing {
+    file: PathBuf,
+    bytes: Vec<u8>,
+    lines: Vec<&'static [u8]>,
+}
+
+impl Read for Changing {
+    fn read(&mut self, bytes: &mut [u8]) -> io::Result<usize> {
+        if self.lines.len() == 2 {
+            fs::write(&self.file, &self.bytes)?;
+        }
+        let line = self.lines.pop().unwrap_or_default();
+        bytes[..line.len()].copy_from_slice(line);
+        Ok(line.len())
+    }
 }
 
 /// The log with another record behind it, sound in itself.

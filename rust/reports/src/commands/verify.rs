@@ -66,3 +66,31 @@ fn list_back(index: &Index, term: &[u8], (numbers, counts): &Postings) -> Result
     }
     Ok(())
 }
+
+#[cfg(test)]
+mod tests {
+    use super::*;
+
+    #[test]
+    fn a_list_that_is_not_that_of_the_log_is_told() {
+        let mut index = Index::new(100, 100);
+        for count in [3, 4] {
+            let report = frame::report(&[("zn", count)]).unwrap();
+            index.report(&report).unwrap();
+        }
+        let verified = |numbers: &[u32], counts: &[u32]| {
+            list_back(&index, b"zn", &(numbers.to_vec(), counts.to_vec()))
+        };
+        assert_eq!(verified(&[1, 2], &[3, 4]), Ok(()));
+        for (numbers, counts) in [
+            (&[1][..], &[3][..]),
+            (&[1, 2, 3], &[3, 4, 5]),
+            (&[1, 3], &[3, 4]),
+            (&[1, 2], &[3, 5]),
+            (&[], &[]),
+        ] {
+            let told = verified(numbers, counts).map_err(|failure| failure.exit());
+            assert_eq!(told, Err(5), "{numbers:?}, {counts:?}");
+        }
+    }
+}

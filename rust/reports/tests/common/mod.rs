@@ -4,7 +4,7 @@
 
 use std::ffi::OsString;
 use std::fs;
-use std::io::{ErrorKind, Write};
+use std::io::{ErrorKind, Read, Write};
 use std::path::{Path, PathBuf};
 use std::process::{Child, Command, Output, Stdio};
 use std::sync::atomic::{AtomicU32, Ordering};
@@ -105,11 +105,16 @@ impl Drop for Folder {
 /// Runs the program on this file in the process of the test, which is faster; gives its exit code and
 /// what it prints.
 pub fn run_here(file: &Path, words: &[&str], input: &[u8]) -> (u8, Vec<u8>, Vec<u8>) {
+    run_with(file, words, &mut &input[..])
+}
+
+/// The same, with any input.
+pub fn run_with(file: &Path, words: &[&str], input: &mut dyn Read) -> (u8, Vec<u8>, Vec<u8>) {
     let mut arguments = vec![file.as_os_str().to_os_string()];
     arguments.extend(words.iter().map(OsString::from));
     let (mut output, mut errors) = (Vec::new(), Vec::new());
     let mut streams = Streams {
-        input: &mut &input[..],
+        input,
         output: &mut output,
         errors: &mut errors,
         at_terminal: false,
