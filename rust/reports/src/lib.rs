@@ -16,7 +16,7 @@
 //! | [`index`] | the proved library's memory, as large as it has to be |
 //! | [`frames`] | frames in memory, and the lines of one |
 //! | [`log`] | the log: its bytes, its end, writing behind it |
-//! | [`disk`], [`file`] | where a log is kept; opening and locking a file, making a new one |
+//! | [`disk`], [`mod@file`] | where a log is kept; opening and locking a file, making a new one |
 //! | [`failure`] | why a command was not done, and the exit codes |
 //! | [`signals`] | one signal ignored; all `unsafe` stands there |
 

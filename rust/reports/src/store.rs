@@ -182,9 +182,10 @@ impl Store {
     /// The frame at this place, the first at 0.
     pub fn frame(&self, place: usize) -> Option<&[u8]> {
         let held = self.log.frames();
-        let taken = || self.taken.get(place - held.len());
-        held.get(place)
-            .or_else(|| (place >= held.len()).then(taken)?)
+        match place.checked_sub(held.len()) {
+            None => held.get(place),
+            Some(place) => self.taken.get(place),
+        }
     }
 
     /// How many bytes the frames have that are taken and not written.

@@ -5,7 +5,7 @@ mod common;
 
 use std::fs;
 use std::io::{self, Read};
-use std::path::PathBuf;
+use std::path::{Path, PathBuf};
 
 use common::{run_here, run_with, Folder};
 use reports::log::record::{Record, GROUP_GOES_ON, REPORT};
@@ -298,6 +298,62 @@ fn the_sound_part_is_recovered() {
     folder.write("season", &log()[1..]);
     folder.expect(4, &["season", "recover", "sound"], b"");
     assert_eq!(folder.names(), ["season"]);
+}
+
+/// The numbers do not tell these apart: only the CRCs, each of which goes on from the one before, do.
+#[test]
+fn records_of_another_log() {
+    let folder = Folder::new();
+    let (head, own) = records();
+    for (name, other) in [("zn", 7), ("P18", 1)] {
+        // A log with another first report, and the same ones behind it.
+        let mut crc = head::read(&head).unwrap().crc;
+        let mut others = Vec::new();
+        for (place, frame) in frames().iter().enumerate() {
+            let first = report_index::frame::report(&[("zn", 3), (name, other)]).unwrap();
+            let mut bytes = Vec::new();
+            let record = Record {
+                kind: REPORT,
+                flags: 0,
+                number: place as u32 + 1,
+                bytes: if place == 0 { &first } else { frame },
+            };
+            crc = record.write(&mut bytes, crc);
+            others.push(bytes);
+        }
+        for place in 0..own.len() {
+            let mut records = own.clone();
+            records[place].clone_from(&others[place]);
+            let bytes = [head.clone(), records.concat()].concat();
+            let found = exported(&folder, &bytes);
+            assert_eq!(found, (4, vec![]), "{name}, record {place}");
+        }
+    }
+}
+
+/// The log that docs/FORMAT.md shows.
+#[test]
+fn the_log_of_the_document() {
+    let document = Path::new(env!("CARGO_MANIFEST_DIR")).join("../../docs/FORMAT.md");
+    let document = fs::read_to_string(document).expect("the document");
+    let begin = document.find("    72 65 70 6F").expect("the example");
+    let example = &document[begin..];
+    let example = &example[..example.find("\n\n").expect("its end")];
+    let byte = |word: &str| {
+        u8::from_str_radix(word, 16)
+            .ok()
+            .filter(|_| word.len() == 2)
+    };
+    let bytes = example
+        .lines()
+        .flat_map(|line| line.split_whitespace().map_while(byte));
+    let bytes: Vec<u8> = bytes.collect();
+    assert_eq!(bytes.len(), 78);
+    let folder = Folder::new();
+    folder.expect(0, &["season", "new"], b"");
+    folder.expect(0, &["season", "report", "zn=3", "P17"], b"");
+    folder.expect(0, &["season", "report", "zn=4"], b"");
+    assert_eq!(folder.read("season"), bytes);
 }
 
 /// An import of all or nothing is one group: cut anywhere, it is not held at all.

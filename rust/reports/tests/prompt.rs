@@ -42,7 +42,7 @@ fn commands_at_the_prompt() {
          refused (7): word 2, \"ZN\", is the same term as word 1, \"zn\"\n\
          there is no command \"take\"; --help lists them\n\
          more: --from 2\n\
-         the lines of a pipe are commands: import takes a file here\n"
+         import takes a file here: the lines of standard input are commands\n"
     );
     assert_eq!(errors, expected);
     // Without quit, the end of the input ends it on a new line.

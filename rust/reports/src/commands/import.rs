@@ -33,7 +33,7 @@ pub fn import(
         }
         (None, Some(input)) => input,
         (None, None) => {
-            let text = "the lines of a pipe are commands: import takes a file here";
+            let text = "import takes a file here: the lines of standard input are commands";
             return Err(Failure::Usage(text.to_string()));
         }
     };

@@ -1,7 +1,9 @@
 //! The commands. [`COMMANDS`] is the one table of them: help, man page and completion follow it.
 //!
-//! | module | commands |
+//! | module | what |
 //! |---|---|
+//! | [`table`] | the table |
+//! | [`mod@parse`] | parting a command into words and options |
 //! | [`new`] | new |
 //! | [`report`] | report |
 //! | [`list`] | find, all |
@@ -20,9 +22,11 @@ pub mod import;
 pub mod info;
 pub mod list;
 pub mod new;
+pub mod parse;
 pub mod recover;
 pub mod report;
 pub mod show;
+pub mod table;
 pub mod verify;
 
 use std::io::{Read, Write};
@@ -31,6 +35,9 @@ use std::ops::RangeInclusive;
 use crate::failure::{Failure, DONE};
 use crate::store::Store;
 use crate::words;
+
+pub use parse::parse;
+pub use table::COMMANDS;
 
 /// A command, as the table has it.
 #[derive(Debug)]
@@ -133,142 +140,6 @@ impl Answer {
     }
 }
 
-const FROM: Opt = Opt {
-    name: "--from",
-    value: Some("N"),
-    help: "begin at report N",
-};
-
-const LIMIT: Opt = Opt {
-    name: "--limit",
-    value: Some("N"),
-    help: "list N reports at most",
-};
-
-const EXPECT: Opt = Opt {
-    name: "--expect",
-    value: Some("N"),
-    help: "refuse the report unless N is the next number",
-};
-
-/// All commands, in the order of the help.
-pub static COMMANDS: [Command; 11] = [
-    Command {
-        name: "new",
-        arguments: "",
-        words: 0..=0,
-        options: &[],
-        help: "make FILE, without a report",
-        needs: Needs::NoFile,
-        run: new::new,
-    },
-    Command {
-        name: "report",
-        arguments: "[TERM[=COUNT]...]",
-        words: 0..=usize::MAX,
-        options: &[EXPECT],
-        help: "take a report and print its number",
-        needs: Needs::LogToWrite,
-        run: report::report,
-    },
-    Command {
-        name: "find",
-        arguments: "TERM",
-        words: 1..=1,
-        options: &[FROM, LIMIT],
-        help: "list the reports with a term, number and count",
-        needs: Needs::Log,
-        run: list::find,
-    },
-    Command {
-        name: "all",
-        arguments: "TERM...",
-        words: 1..=usize::MAX,
-        options: &[FROM, LIMIT],
-        help: "list the reports with all of the terms",
-        needs: Needs::Log,
-        run: list::all,
-    },
-    Command {
-        name: "show",
-        arguments: "NUMBER",
-        words: 1..=1,
-        options: &[],
-        help: "print a report",
-        needs: Needs::Log,
-        run: show::show,
-    },
-    Command {
-        name: "last",
-        arguments: "",
-        words: 0..=0,
-        options: &[],
-        help: "print the last report, its number first",
-        needs: Needs::Log,
-        run: show::last,
-    },
-    Command {
-        name: "import",
-        arguments: "[TEXT]",
-        words: 0..=1,
-        options: &[
-            Opt {
-                name: "--all-or-nothing",
-                value: None,
-                help: "take all of them or none",
-            },
-            Opt {
-                name: "--keep-numbers",
-                value: None,
-                help: "take a report without lines in place of a refused one",
-            },
-        ],
-        help: "take a report from each line of the file TEXT or of standard input",
-        needs: Needs::LogToWrite,
-        run: import::import,
-    },
-    Command {
-        name: "export",
-        arguments: "",
-        words: 0..=0,
-        options: &[Opt {
-            name: "--frames",
-            value: None,
-            help: "print frames, not text",
-        }],
-        help: "print all reports, as import takes them",
-        needs: Needs::Log,
-        run: export::export,
-    },
-    Command {
-        name: "info",
-        arguments: "",
-        words: 0..=0,
-        options: &[],
-        help: "say what FILE holds and whether it is sound",
-        needs: Needs::File,
-        run: info::info,
-    },
-    Command {
-        name: "verify",
-        arguments: "",
-        words: 0..=0,
-        options: &[],
-        help: "read every byte, take every report again and list every term back",
-        needs: Needs::Log,
-        run: verify::verify,
-    },
-    Command {
-        name: "recover",
-        arguments: "NEW",
-        words: 1..=1,
-        options: &[],
-        help: "write the sound part of FILE to the new file NEW",
-        needs: Needs::File,
-        run: recover::recover,
-    },
-];
-
 impl Command {
     /// The command with its arguments, as the help has them.
     pub fn form(&self) -> String {
@@ -313,73 +184,4 @@ impl Call {
         let wrong = || Failure::Usage(format!("{name} takes a number, and \"{value}\" is none"));
         Ok(Some(number.ok_or_else(wrong)?))
     }
-}
-
-/// The command that these words name, with its words and options.
-pub fn parse(words: &[String]) -> Result<Call, Failure> {
-    let (name, rest) = words
-        .split_first()
-        .ok_or_else(|| Failure::Usage("no command is named".to_string()))?;
-    let command = COMMANDS.iter().find(|command| command.name == name);
-    let command = command.ok_or_else(|| {
-        Failure::Usage(format!(
-            "there is no command \"{}\"; --help lists them",
-            name.escape_debug()
-        ))
-    })?;
-    let call = parse_arguments(command, rest)?;
-    if !command.words.contains(&call.words.len()) {
-        return Err(Failure::Usage(format!("use: {}", command.usage())));
-    }
-    for option in command.options {
-        if option.value.is_some() {
-            call.number(option.name)?;
-        }
-    }
-    Ok(call)
-}
-
-/// Parts options and words. Options begin with two dashes and may stand anywhere; behind `--` there
-/// are none.
-fn parse_arguments(command: &'static Command, arguments: &[String]) -> Result<Call, Failure> {
-    let mut call = Call {
-        command,
-        words: Vec::new(),
-        options: Vec::new(),
-    };
-    let mut arguments = arguments.iter();
-    while let Some(argument) = arguments.next() {
-        if argument == "--" {
-            call.words.extend(arguments.cloned());
-            break;
-        }
-        if !argument.starts_with("--") {
-            call.words.push(argument.clone());
-            continue;
-        }
-        let (name, value) = match argument.split_once('=') {
-            Some((name, value)) => (name, Some(value.to_string())),
-            None => (&argument[..], None),
-        };
-        let option = command.options.iter().find(|option| option.name == name);
-        let wrong = || {
-            let (name, usage) = (name.escape_debug(), command.usage());
-            Failure::Usage(format!(
-                "{name} is no option of {}; use: {usage}",
-                command.name
-            ))
-        };
-        let option = option.ok_or_else(wrong)?;
-        let value = match (option.value, value) {
-            (None, None) => String::new(),
-            (None, Some(_)) => return Err(Failure::Usage(format!("{name} takes no value"))),
-            (Some(_), Some(value)) => value,
-            (Some(_), None) => arguments
-                .next()
-                .cloned()
-                .ok_or_else(|| Failure::Usage(format!("{name} takes a number")))?,
-        };
-        call.options.push((option.name, value));
-    }
-    Ok(call)
 }
