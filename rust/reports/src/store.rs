@@ -117,7 +117,8 @@ impl Store {
         match self.log.finding() {
             Finding::Sound | Finding::Torn { .. } => Ok(()),
             Finding::Damaged { byte: 0 } => Err(Failure::Damaged(format!(
-                "{path}: damaged at byte 0: it is no log of reports, or its head is damaged"
+                "{path}: damaged at byte 0: it is no log of reports, or its head is damaged; \
+                 recover NEW writes what is sound behind the head to a new file"
             ))),
             Finding::Damaged { byte } => Err(Failure::Damaged(format!(
                 "{path}: damaged at byte {byte}; the last sound report is {held}; \
@@ -221,13 +222,6 @@ impl Store {
         self.check()
     }
 
-    /// The bytes of the sound part: the head and the whole groups.
-    pub fn sound_part(&mut self) -> Result<Vec<u8>, Failure> {
-        let mut bytes = self.whole_file()?;
-        bytes.truncate(self.log.end() as usize);
-        Ok(bytes)
-    }
-
     /// How many bytes the file has.
     pub fn length(&self) -> Result<u64, Failure> {
         let length = self.file().and_then(LogFile::length);
@@ -245,7 +239,8 @@ impl Store {
         self.file.as_ref().ok_or_else(none)
     }
 
-    fn whole_file(&mut self) -> Result<Vec<u8>, Failure> {
+    /// All bytes of the file.
+    pub fn whole_file(&mut self) -> Result<Vec<u8>, Failure> {
         let none = || io::Error::other("it is not open");
         let file = self.file.as_mut().ok_or_else(none);
         let bytes = file.and_then(|file| file.read(0));

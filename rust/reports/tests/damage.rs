@@ -293,11 +293,31 @@ fn the_sound_part_is_recovered() {
         folder.expect(5, &["season", "recover", "sound"], b"");
         assert_eq!(folder.read("sound"), expected, "byte {place}");
     }
-    // Where the head is damaged, nothing is sound.
-    let folder = Folder::new();
-    folder.write("season", &log()[1..]);
-    folder.expect(4, &["season", "recover", "sound"], b"");
-    assert_eq!(folder.names(), ["season"]);
+}
+
+/// The records tell which head they belong to.
+#[test]
+fn what_stands_behind_a_damaged_head_is_recovered() {
+    for bit in 0..head::BYTES * 8 {
+        let folder = Folder::new();
+        let mut bytes = log();
+        bytes[bit / 8] ^= 1 << (bit % 8);
+        folder.write("season", &bytes);
+        let sound = folder.file("sound");
+        let words = ["recover", sound.to_str().unwrap()];
+        let (exit, _, errors) = run_here(&folder.file("season"), &words, b"");
+        assert_eq!((exit, &errors[..]), (0, &b""[..]), "bit {bit}");
+        assert_eq!(folder.read("sound"), log(), "bit {bit}");
+        assert_eq!(folder.read("season"), bytes, "bit {bit}");
+    }
+    // Another file, and a head alone, have no sound part.
+    for bytes in [&log()[1..], &log()[..8], &log()[16..], b"", &[1; 100]] {
+        let folder = Folder::new();
+        folder.write("season", bytes);
+        let errors = folder.expect_errors(4, &["season", "recover", "sound"], b"");
+        assert!(errors.contains("damaged at byte 0"), "{errors}");
+        assert_eq!(folder.names(), ["season"]);
+    }
 }
 
 /// The numbers do not tell these apart: only the CRCs, each of which goes on from the one before, do.

@@ -34,9 +34,14 @@ pub enum Fault {
 
 /// The head of a new log.
 pub fn write() -> [u8; BYTES] {
+    write_under(RULES)
+}
+
+/// The head of a log that was begun under this change request.
+pub fn write_under(rules: u16) -> [u8; BYTES] {
     let mut head = [0; BYTES];
     head[..8].copy_from_slice(&MAGIC);
-    head[8..10].copy_from_slice(&RULES.to_be_bytes());
+    head[8..10].copy_from_slice(&rules.to_be_bytes());
     let crc = crc::go_on(0, &head[..BEFORE_CRC]);
     head[BEFORE_CRC..].copy_from_slice(&crc.to_be_bytes());
     head
