@@ -140,13 +140,7 @@ impl Store {
         for place in self.index.reports()..held.len() {
             let frame = held.get(place).unwrap_or_default();
             match self.index.take(frame, held.iter().take(place)) {
-                Ok(number) if number as usize == place + 1 => {}
-                Ok(number) => {
-                    return Err(Failure::Fatal(format!(
-                        "the library answers {number} to report {}",
-                        place + 1
-                    )))
-                }
+                Ok(number) => expect_number(number, place + 1)?,
                 Err(refusal) => return Err(held_refused(place + 1, frame, refusal, memory)),
             }
         }
@@ -166,13 +160,13 @@ impl Store {
         brought: Brought,
     ) -> Result<u32, Failure> {
         self.index()?;
-        let taken = frame.and_then(|frame| {
-            let earlier = self.log.frames().iter().chain(self.taken.iter());
-            let number = self.index.take(&frame, earlier)?;
-            self.taken.push(&frame);
-            Ok(number)
-        });
-        taken.map_err(|refusal| brought.refused(refusal, self.settings.memory))
+        let refused = |refusal| brought.refused(refusal, self.settings.memory);
+        let frame = frame.map_err(refused)?;
+        let earlier = self.log.frames().iter().chain(self.taken.iter());
+        let number = self.index.take(&frame, earlier).map_err(refused)?;
+        expect_number(number, self.next())?;
+        self.taken.push(&frame);
+        Ok(number)
     }
 
     /// The frames of all reports, those taken and not written too.
@@ -361,6 +355,15 @@ impl Store {
 /// Writes a line on standard error. Where nobody reads it, nobody is told.
 pub fn tell(errors: &mut dyn Write, text: &str) {
     let _ = writeln!(errors, "{text}");
+}
+
+/// Fails where the library gives another number than the log to a report.
+fn expect_number(number: u32, expected: usize) -> Result<(), Failure> {
+    if number as usize == expected {
+        return Ok(());
+    }
+    let text = format!("the library answers {number} to report {expected}");
+    Err(Failure::Fatal(text))
 }
 
 /// The failure where this library refuses a report that is held.

@@ -104,6 +104,10 @@ impl Disk for Failing {
 
     fn sync(&mut self) -> io::Result<()> {
         if self.fails() {
+            // All of it may be there for certain, and the answer alone is lost.
+            if !self.for_good {
+                self.synced = self.bytes.clone();
+            }
             return Err(failed());
         }
         self.synced = self.bytes.clone();
