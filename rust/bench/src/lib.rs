@@ -10,6 +10,8 @@
 //! | [`fts`] | FTS5 on the same workload, where SQLite is installed |
 //! | `sqlite` | the C functions of SQLite; all `unsafe` stands there |
 //! | [`rounds`] | rounds on a clock |
+//!
+//! The program `bench-reports` measures the program `reports` on a large file.
 
 #![deny(unsafe_code)]
 #![warn(missing_docs)]
