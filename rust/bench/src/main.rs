@@ -11,7 +11,7 @@ use bench::memory::{Lists, Memory};
 use bench::plain::PLAIN;
 use bench::rounds::Times;
 use bench::workload::{Queries, Workload};
-use report_index::calls::{Calls, LIBRARY};
+use differential::calls::{Calls, LIBRARY};
 use report_index::BLOCK_BYTES;
 
 /// The two that take turns.

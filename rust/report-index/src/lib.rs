@@ -10,7 +10,6 @@
 //! | [`Index`] | the same calls over memory of its own |
 //! | [`mod@frame`] | making the frame of a report or of a query; the limits of a frame |
 //! | [`raw`] | the calls with the library's own answers; all `unsafe` stands there |
-//! | [`calls`] | the four calls as values, to choose an implementation |
 //!
 //! A frame is what document 01 calls a report or a query in bytes: the version 1, the length of the
 //! body in two bytes, the kind, and the fields of that kind. Numbers have four bytes, highest first.
@@ -45,7 +44,6 @@
 #![deny(unsafe_code)]
 #![warn(missing_docs)]
 
-pub mod calls;
 pub mod frame;
 mod index;
 #[allow(unsafe_code)]
