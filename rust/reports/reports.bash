@@ -40,8 +40,12 @@ _reports() {
         return
     fi
     case $command in
-        "" | import | recover) mapfile -t COMPREPLY < <(compgen -f -- "$word") ;;
+        "" | import | recover)
+            mapfile -t COMPREPLY < <(compgen -f -- "$word")
+            # A name with a space is quoted, and a folder ends with a slash.
+            compopt -o filenames 2> /dev/null || true
+            ;;
     esac
 }
 
-complete -o filenames -F _reports reports
+complete -F _reports reports

@@ -1,8 +1,8 @@
 //! Making frames, and the limits of what a frame may hold.
 //!
-//! A frame that is made here may still be refused: it is the library that judges. What no frame can
-//! say, for lack of room in a length field, is refused here, under the number that the library would
-//! give.
+//! A frame that is made here may still be refused: it is the library that judges. Only a body of more
+//! than [`MAX_BODY`] bytes and a term whose length has no room in its byte are refused here, under the
+//! number that the library would give.
 //!
 //! ```
 //! use report_index::{frame, Index};

@@ -93,16 +93,16 @@ fn answer_all(
     let done = asked
         .into_iter()
         .try_for_each(|asked| answers.push(answer(store, asked, errors)));
-    let kept = match done {
-        Err(Failure::Fatal(_)) => Ok(()),
-        _ => store.keep(),
+    let done = match done {
+        Err(Failure::Fatal(_)) => done,
+        _ => store.keep().and(done),
     };
     store.end();
-    if kept.is_err() {
-        // Nothing of what was taken may be answered.
+    if matches!(done, Err(Failure::Fatal(_))) {
+        // Some of what was taken may not be kept, and what is not kept is not answered.
         *answers = Answers::default();
     }
-    kept.and(done)
+    done
 }
 
 /// Does what one line asks for.

@@ -10,7 +10,6 @@ use crate::failure::{Failure, DONE};
 use crate::file::Access;
 use crate::help::{help, version, USE};
 use crate::store::{tell, Settings, Store};
-use crate::words;
 use crate::{pipe, prompt};
 
 /// Where the program reads and writes.
@@ -155,15 +154,8 @@ fn bytes(value: &str) -> Result<u64, Failure> {
         Some((end, 'g' | 'G')) => (&value[..end], 30),
         _ => (value, 0),
     };
-    let number = words::number(digits).map(u64::from);
-    // Without a letter, the number may have more than 32 bits.
-    let number = number.or_else(|| {
-        if shift == 0 {
-            digits.parse().ok()
-        } else {
-            None
-        }
-    });
+    let plain = digits.bytes().all(|byte| byte.is_ascii_digit());
+    let number: Option<u64> = plain.then(|| digits.parse().ok()).flatten();
     number
         .and_then(|number| number.checked_mul(1 << shift))
         .ok_or_else(wrong)

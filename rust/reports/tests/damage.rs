@@ -5,6 +5,7 @@ mod common;
 
 use std::fs;
 use std::io::{self, Read};
+use std::os::unix::fs::PermissionsExt;
 use std::path::{Path, PathBuf};
 
 use common::{run_here, run_with, Folder};
@@ -293,6 +294,50 @@ fn the_sound_part_is_recovered() {
         folder.expect(5, &["season", "recover", "sound"], b"");
         assert_eq!(folder.read("sound"), expected, "byte {place}");
     }
+}
+
+/// Nobody can read a copy or a recovered file who may not read the file itself.
+#[test]
+fn copies_are_as_private_as_the_file() {
+    let folder = Folder::new();
+    let torn = [log(), vec![1]].concat();
+    let mode = |name: &str| {
+        let about = fs::metadata(folder.file(name)).expect("the file");
+        about.permissions().mode() & 0o777
+    };
+    for private in [0o600, 0o640] {
+        folder.write("season", &torn);
+        let permissions = fs::Permissions::from_mode(private);
+        fs::set_permissions(folder.file("season"), permissions).expect("the mode");
+        folder.expect(0, &["season", "recover", "sound"], b"");
+        folder.expect(0, &["season", "report", "zn"], b"");
+        let copy = format!("season.torn-{}", log().len());
+        assert_eq!(
+            (mode("season"), mode("sound"), mode(&copy)),
+            (private, private, private)
+        );
+        for name in ["season", "sound", &copy] {
+            fs::remove_file(folder.file(name)).expect("it can be removed");
+        }
+    }
+}
+
+/// A copy of the same name is used where it is the same, and left alone where it is another.
+#[test]
+fn a_copy_that_is_there_already() {
+    let folder = Folder::new();
+    let torn = [log(), vec![1]].concat();
+    let copy = format!("season.torn-{}", log().len());
+    folder.write(&copy, &torn);
+    folder.write("season", &torn);
+    folder.expect(0, &["season", "report", "zn"], b"");
+    assert_eq!(folder.names(), ["season", &copy]);
+    let other = [log(), vec![1, 2]].concat();
+    folder.write("season", &other);
+    folder.expect(0, &["season", "report", "zn"], b"");
+    let second = format!("{copy}.2");
+    assert_eq!(folder.names(), ["season", &copy, &second]);
+    assert_eq!((folder.read(&copy), folder.read(&second)), (torn, other));
 }
 
 /// The records tell which head they belong to.

@@ -81,6 +81,22 @@ fn a_pipe_ends_where_reports_are_not_kept() {
     assert_eq!(folder.read("season"), before);
 }
 
+/// An import writes what was taken before it, and what does not fit is not answered then, either.
+#[test]
+fn a_pipe_ends_where_an_import_does_not_fit() {
+    let folder = nearly_full();
+    let before = folder.read("season");
+    folder.write("lines", b"report zn\n");
+    let input = b"report zn=3 P17\nimport lines\nfind zn\n";
+    let output = limited(&folder, 1, &["season"], input);
+    assert_eq!(text(&output.stderr), format!("report 29: {NOT_KEPT}"));
+    assert_eq!(
+        (output.status.code(), &output.stdout[..]),
+        (Some(5), &b""[..])
+    );
+    assert_eq!(folder.read("season"), before);
+}
+
 #[test]
 fn an_import_keeps_what_was_written_before() {
     let folder = nearly_full();

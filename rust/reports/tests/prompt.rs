@@ -59,6 +59,21 @@ fn the_help_at_the_prompt() {
     assert_eq!(output, folder.expect(0, &["--help"], b""));
 }
 
+/// The progress of an import stands on one line, and goes before another text stands there.
+#[test]
+fn an_import_at_the_prompt_shows_its_progress() {
+    let folder = Folder::new();
+    folder.expect(0, &["season", "new"], b"");
+    folder.write("lines", b"report zn\nreport zn=0\nreport cu\n");
+    let lines = folder.file("lines");
+    let (exit, output, errors) = prompt(&folder, &format!("import {}\n", lines.display()));
+    let sum = "2 reports taken, numbers 1 to 2; 1 lines refused\n";
+    assert_eq!((exit, &output[..]), (0, sum));
+    let refused = "line 2: refused (6): word 1, \"zn\", has the count 0; a count is at least 1\n";
+    let expected = format!("0 {BANNER}reports> \r\x1B[K{refused}\r3 lines\r\x1B[Kreports> \n");
+    assert_eq!(errors, expected);
+}
+
 #[test]
 fn a_damaged_file_at_the_prompt() {
     let folder = Folder::new();
