@@ -1,9 +1,17 @@
 /* The exported calls of the report index. Each is proved to meet its contract (crates/index_c/src/lib.rt) for all bytes it can be lent.
+ * docs/FORMAT.md lays out frames, refusals and the memory.
  *
  * The caller lends all memory: an arena of bytes (64 to a block), a table of 32-bit entries, three counters, a frame, and for listings
- * 32-bit result lists. A pointer is followed by the number of elements behind it; the memory must not overlap. Nothing is kept between calls.
- * An arena that begins at a multiple of 64 bytes is read a little faster; it need not.
- * A refusal is a number from 1 to 13 (document 01, "Where each refusal is checked"); 0 means that there was none.
+ * 32-bit result lists. A pointer is followed by the number of elements behind it. Nothing is kept between calls.
+ *
+ * What a caller has to see to:
+ * - Each pointer leads to as many elements as its length says, and lent memory does not overlap. Table, counters and lists are aligned as
+ *   uint32_t is; arena and frame need no alignment. An arena that begins at a multiple of 64 bytes is read a little faster.
+ * - A length of 0 may come with any pointer that is not null.
+ * - Calls that are lent the same memory must not run at the same time in several threads, except listings, which only read arena, table and
+ *   counters. Calls over other memory may: the library has no memory of its own.
+ * - A call uses less than 64 KiB of stack. It takes no memory from the system and makes no system call.
+ * - The library is for x86-64 and is linked as a static archive:  cc program.c -I include target/staticlib/libindex.a
  */
 #ifndef REPORT_INDEX_H
 #define REPORT_INDEX_H
@@ -11,6 +19,31 @@
 #include <stdbool.h>
 #include <stddef.h>
 #include <stdint.h>
+
+/* Rises when a struct or the parameters of a call change. */
+#define REPORT_INDEX_ABI 1
+
+#ifdef __cplusplus
+extern "C" {
+#endif
+
+/* What an answer's `refusal` says: 0, or the first condition that held. */
+enum report_index_refusal {
+    REPORT_INDEX_DONE = 0,
+    REPORT_INDEX_HEADER = 1,   /* the frame: fewer than 4 bytes, or a version other than 1 */
+    REPORT_INDEX_LENGTH = 2,   /* its length field is over 4,096 or not the bytes that follow */
+    REPORT_INDEX_KIND = 3,     /* a kind of another call */
+    REPORT_INDEX_FIELDS = 4,   /* a field passes the end, or too few or too many terms */
+    REPORT_INDEX_TERM = 5,     /* a term of 0 or more than 36 bytes, or with a barred byte */
+    REPORT_INDEX_COUNT = 6,    /* a count of 0 */
+    REPORT_INDEX_REPEAT = 7,   /* two lines with the same term */
+    REPORT_INDEX_COUNTERS = 8, /* counters that do not fit arena and table */
+    REPORT_INDEX_REPORTS = 9,  /* all report numbers are taken */
+    REPORT_INDEX_DAMAGE = 10,  /* arena or table are damaged */
+    REPORT_INDEX_TERMS = 11,   /* no room in the table for the new terms */
+    REPORT_INDEX_ROOM = 12,    /* no room in the arena */
+    REPORT_INDEX_WRITING = 13  /* a line could not be written after others were: only damage brings it */
+};
 
 struct report_index_counters {
     uint32_t used;    /* blocks used */
@@ -48,5 +81,9 @@ struct report_index_list_answer report_index_list_all(
     const uint8_t *arena, size_t arena_length, const uint32_t *table, size_t table_length,
     const struct report_index_counters *counters, const uint8_t *frame, size_t frame_length,
     uint32_t *numbers, size_t numbers_length);
+
+#ifdef __cplusplus
+}
+#endif
 
 #endif

@@ -19,6 +19,7 @@ const MAKE: &str = "(cd crates/index_c && rt lib) && \
     install -D -m 644 crates/index_c/out/libindex_c.a target/staticlib/libindex.a";
 
 fn main() {
+    refuse_other_machines();
     let folder = folder();
     let library = folder.join(LIBRARY);
     println!("cargo:rerun-if-env-changed={FOLDER}");
@@ -32,6 +33,19 @@ fn main() {
     }
     println!("cargo:rustc-link-search=native={}", folder.display());
     println!("cargo:rustc-link-lib=static=index");
+}
+
+/// The prover makes the library for Linux on x86-64 alone.
+fn refuse_other_machines() {
+    let word = |name| env::var(name).unwrap_or_default();
+    let (machine, system) = (word("CARGO_CFG_TARGET_ARCH"), word("CARGO_CFG_TARGET_OS"));
+    if (machine.as_str(), system.as_str()) != ("x86_64", "linux") {
+        eprintln!(
+            "report-index is built for {system} on {machine} here, and the proved library is made"
+        );
+        eprintln!("for linux on x86_64 alone.");
+        exit(1);
+    }
 }
 
 /// The folder in which the library is looked for.

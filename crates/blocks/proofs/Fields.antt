@@ -2,16 +2,19 @@
 -- Assumes nothing.
 use mathlib.Core.Path.{◌≡◌, ap}
 use mathlib.Core.List.{List}
-use Prim.Native.Nat.{ℕ, ◌+◌, ◌≤◌, ◌<◌}
-use borrow.Author.Tests.{eq-eqb, ne_eqb}
-use lib.ListN.{length, get_or, length-take, length-drop}
 use mathlib.Core.Bool.{false}
+use Prim.Native.Nat.{ℕ, ◌+◌, ◌-◌, ◌≤◌, ◌<◌}
 use native.Mathlib.Omega.{arith}
+use native.Mathlib.Nat.{add_assoc}
+use borrow.Author.Tests.{eq-eqb, ne_eqb}
+use lib.ListN.{length, get_or, drop, length-take, length-drop}
+use lib.Seq.{drop-drop, length-take-le}
 use Rattle.basics.specs.Lists.{same}
 use Rattle.basics.proofs.Lists.{ne_same}
+use Rattle.basics.proofs.Parts.{drop-take}
 use Rattle.terms.specs.Terms.{max_term}
 use Rattle.blocks.specs.declared.Head.{Head}
-use Rattle.blocks.specs.Fields.{block_size, head_fixed, link_size, place, head_of, term_length, name_part, name_of, part_start}
+use Rattle.blocks.specs.Fields.{block_size, head_fixed, link_size, place, head_of, term_length, name_part, name_of, part_start, part_of}
 use Rattle.blocks.proofs.Sizes.{head_room}
 
 -- the length of a head's term is its byte 17
@@ -47,3 +50,14 @@ module _ (d : Head) (h b : ℕ) where
   pub part_other : (b ≡ h → ⊥) → part_start d h b ≡ link_size
   unfolding part_start
   part_other n = rw (ne_eqb b h n)
+
+-- n bytes further on in a block's part, and how many bytes a part has
+module _ (a : List ℕ) (b from : ℕ) where
+  pub drop-part : (n to : ℕ) → drop n (part_of a b from to) ≡ part_of a b (from + n) to
+  unfolding part_of
+  drop-part n to =
+      let e : to - (from + n) ≡ to - from - n = omega arith in rw (drop-take, drop-drop, e, add_assoc (place b) from n)
+
+  pub length-part : (to : ℕ) → place b + to ≤ length a → length (part_of a b from to) ≡ to - from
+  unfolding part_of
+  length-part to h = length-take-le (to - from) (drop (place b + from) a) (rw length-drop (omega arith))

@@ -39,7 +39,7 @@ ghost use Rattle.blocks.specs.Writes.{padded, growing, changing, open_head, fits
 
 mod used;
 
-use postings::{BGap, DGap, Gap};
+use postings::{BGap, DGap};
 pub use used::Used;
 
 // The bytes that are counted as one, and those of a block.
@@ -190,18 +190,12 @@ fn put_changing(arena: &mut [u8], h: u32, d: Head)
 }
 
 // Writes a posting at an offset of block b, and returns the offset past it.
-fn put_gap<const BLOCK: bool>(
-    arena: &mut [u8],
-    b: u32,
-    offset: usize,
-    gap: Gap<BLOCK>,
-    count: u32,
-) -> usize
-    requires { (0 < gap.0) × (offset + length (code gap.0 count) ≤ block_size) × (place b + block_size ≤ length arena.old) }
-    ensures { (result ≡ offset + length (code gap.entry.0 count)) × (arena.new ≡ sets arena.old (place b + offset) (code gap.entry.0 count)) }
+fn put_at(arena: &mut [u8], b: u32, offset: usize, gap: u32, count: u32) -> usize
+    requires { (0 < gap) × (offset + length (code gap count) ≤ block_size) × (place b + block_size ≤ length arena.old) }
+    ensures { (result ≡ offset + length (code gap count)) × (arena.new ≡ sets arena.old (place b + offset) (code gap count)) }
 {
     let at = place_of(b);
-    postings::put_posting(arena, at + offset, gap.steps(), count) - at
+    postings::put_posting(arena, at + offset, gap, count) - at
 }
 
 // Writes the first posting of a block, whose postings begin at `start`: it takes a b-gap.
@@ -209,7 +203,7 @@ fn put_first(arena: &mut [u8], b: u32, start: usize, gap: BGap, count: u32) -> u
     requires { (0 < gap.0) × (start + length (code gap.0 count) ≤ block_size) × (place b + block_size ≤ length arena.old) }
     ensures { (result ≡ start + length (code gap.0 count)) × (arena.new ≡ sets arena.old (place b + start) (code gap.0 count)) }
 {
-    put_gap(arena, b, start, gap, count)
+    put_at(arena, b, start, gap.0, count)
 }
 
 // Writes a posting behind others, at the write offset: it takes a d-gap.
@@ -217,7 +211,7 @@ fn put_next(arena: &mut [u8], b: u32, end: usize, gap: DGap, count: u32) -> usiz
     requires { (0 < gap.0) × (end + length (code gap.0 count) ≤ block_size) × (place b + block_size ≤ length arena.old) }
     ensures { (result ≡ end + length (code gap.0 count)) × (arena.new ≡ sets arena.old (place b + end) (code gap.0 count)) }
 {
-    put_gap(arena, b, end, gap, count)
+    put_at(arena, b, end, gap.0, count)
 }
 
 // A new term: its head at block b, with its first posting. A head's first gap counts from 0.
@@ -250,7 +244,7 @@ pub fn fits_in(d: Head, number: u32, count: u32) -> bool
 {
     let gap = DGap::between(d.last, number);
     d.end + postings::MAX_CODE <= BLOCK
-        || d.end + postings::posting_length(gap.steps(), count) <= BLOCK
+        || d.end + postings::posting_length(gap.0, count) <= BLOCK
 }
 
 // A posting at the write offset of the tail. The tail stays, so that field of the head is not written again.

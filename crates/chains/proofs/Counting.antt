@@ -8,21 +8,20 @@ use Rattle.std.specs.Prelude.{Option, Some, None}
 use native.Mathlib.Omega.{arith}
 use native.Mathlib.Nat.{add-zero, zero-add}
 use lib.Dec.{eqb}
-use lib.ListN.{length, drop}
+use lib.ListN.{length}
 use borrow.Author.Tests.{lt-ltb, le-ltb, eq-eqb}
 use Rattle.basics.proofs.Cases.{by-lt, by-eq}
 use Rattle.postings.specs.Coding.{decoded}
 use Rattle.postings.specs.declared.Decoded.{Decoded}
-use Rattle.postings.proofs.Laws.{decoded-within}
 use Rattle.blocks.specs.declared.Head.{Head}
 use Rattle.blocks.specs.Prescribed.{Posting}
-use Rattle.blocks.specs.Fields.{place, link_of, head_of, part_of}
+use Rattle.blocks.specs.Fields.{block_size, place, link_of, head_of}
 use Rattle.chains.specs.declared.Cursor.{Cursor}
 use Rattle.chains.specs.declared.PartRead.{PartRead}
-use Rattle.chains.specs.Chains.{Stepped, stepped, at_end, damage, part_end, exhausted, given, read_at, entered, next_block, step_at, Reading, damaged, whole, onto, follow, run, linked, entered_at, at_head, bad_head, last_from, agreeing, chain_of, is_whole, Follows}
+use Rattle.chains.specs.Chains.{Stepped, stepped, at_end, damage, part_end, part_at, exhausted, past, given, read_at, entered, next_block, step_at, Reading, damaged, whole, onto, follow, run, linked, entered_at, at_head, bad_head, last_from, agreeing, chain_of, is_whole, Follows}
 use Rattle.chains.specs.Parts.{InPart, passed, part_read}
-use Rattle.chains.proofs.Steps.{part_within, past, given-none, given_low, given-over, given-at, read_gave, next-none, next_out, next-at, step_end, step_next, step_here}
-use Rattle.chains.proofs.Parts.{part_drop, step_first, read_in_part, Within, here, on, passed-within, stopped_damage}
+use Rattle.chains.proofs.Steps.{part_end_le, decoded_past, given-none, given_low, given-over, given-at, read_gave, next-none, next_out, next-at, step_end, step_next}
+use Rattle.chains.proofs.Parts.{step_first, read_in_part, Within, here, on, passed-within, stopped_damage}
 use Rattle.chains.proofs.Passing.{passed-stops, read_some, read-over, read_none}
 use Rattle.chains.proofs.Laws.{step_follows, run_step, rest, run-rest, rest-posting, rest_end, rest-damaged, head-follows, head-rest, chain_bad, chain_good}
 
@@ -76,9 +75,7 @@ module _ {a : List ℕ} {used reports h : ℕ} {d : Head} {c : Cursor} {n : ℕ}
 counted_on : {a : List ℕ} {used reports h to : ℕ} {d : Head} {c c' : Cursor} {n k : ℕ} → Counted a used reports h d c n → Within a reports to c k c'
     → Counted a used reports h d c' (n + k)
 counted_on w here = rw add-zero w
-counted_on {a} {used} {reports} {n = n} w (on {k = k} v b e r) =
-    let s : n + suc k ≡ n + k + 1 = omega arith in
-    rw s (more (counted_on w v) (step_here a used reports _ e ∙ r))
+counted_on {n = n} w (on {k = k} v b e) = let s : n + suc k ≡ n + k + 1 = omega arith in rw s (more (counted_on w v) (e _))
 
 -- ---- one block after another
 
@@ -123,26 +120,21 @@ module _ (a : List ℕ) (used reports h : ℕ) {d : Head} (q : d ≡ head_of a h
         within = omega arith;
         is = g ∙ finish_start d _ ∙ ap (finish d 0 0) (head-rest a used reports h d);
       } in
-      entering w c 0 f refl refl (omega arith) (step_first a used reports c (omega (arith, f.inside, f.in_use)) refl)
+      entering w c 0 f refl refl (omega arith) (step_first a used reports c refl)
 
 -- behind what was read of the cursor's part
 abbrev pub after : Cursor → PartRead → Cursor
-after k r = record k { at = r.rest.at; number = r.rest.number; first = r.first }
+after k r = record k { at = k.at + r.rest.at; number = r.rest.number; first = r.first }
 
 -- the cursor's part was read: its postings are counted, and behind them comes the part's end or damage
 pub record Read (a : List ℕ) (used reports h : ℕ) (d : Head) (c : Cursor) (n : ℕ) : Type 0 where
+  pub within : c.at ≤ block_size
   pub begun : 0 < c.first
   pub first_in_lem : c.first ≤ reports
   pub counted : Counted a used reports h d c n
   pub early : exhausted a c ≡ false → step_at a used reports c ≡ damage
 
 module _ {a : List ℕ} {used reports h : ℕ} {d : Head} {k : Cursor} {base n : ℕ} (w : Entering a used reports h d k base n) where
-  abbrev e : ℕ
-  e = part_end k k.block
-
-  abbrev part : List ℕ
-  part = part_of a k.block 0 e
-
   unread_damage : read_at a reports k base ≡ damage → is_whole (chain_of a used reports h) ≡ false
   unfolding finish follow
   unread_damage q = w.is ∙ ap (λ (s : Stepped). finish d n k.number (follow (run (reports - k.number) a used reports) s)) q
@@ -164,74 +156,74 @@ module _ {a : List ℕ} {used reports h : ℕ} {d : Head} {k : Cursor} {base n :
             ∙ ap (λ (x : ℕ). finish d (n + 1) x (rest a used reports c')) (sym g.number);
       }
 
-  found : (x : Option Decoded) → decoded (drop k.at part) ≡ x → read_at a reports k base ≡ given reports k base x
+  found : (x : Option Decoded) → decoded (part_at a k) ≡ x → read_at a reports k base ≡ given reports k base x
   unfolding read_at
-  found x q = ap (given reports k base) (sym (ap decoded (part_drop a k.block e k.at)) ∙ q)
+  found x q = ap (given reports k base) q
+
+  -- what is read of the part, by what stands at its front
+  abbrev reading : ℕ → ℕ → PartRead
+  reading g l = record { first = base + g; rest = passed (part_at a k) reports l (base + g) reports }
 
   -- no first posting, or one over reports
-  no_first : (x : Option Decoded) → decoded (drop k.at part) ≡ x → None ≡ part_read part reports k.at base → read_at a reports k base ≡ damage
+  no_first : (x : Option Decoded) → decoded (part_at a k) ≡ x → None ≡ part_read (part_at a k) reports base → read_at a reports k base ≡ damage
   no_first None q i = found None q ∙ given-none reports k base
   no_first (Some m) q i =
       found (Some m) q
       ∙ by-lt reports (base + m.gap) (λ u. given-over reports k base m.gap m.count m.length u)
-      (λ u. cc (read_some part reports k.at base q u))
+      (λ u. cc (read_some (part_at a k) reports base q u))
 
   -- or not past the last one
-  not_past : (x : Option Decoded) → decoded (drop k.at part) ≡ x → {r : PartRead} → Some r ≡ part_read part reports k.at base → r.first ≤ k.number
+  not_past : (x : Option Decoded) → decoded (part_at a k) ≡ x → {r : PartRead} → Some r ≡ part_read (part_at a k) reports base → r.first ≤ k.number
       → read_at a reports k base ≡ damage
-  not_past None q i l = cc (read_none part reports k.at base q)
+  not_past None q i l = cc (read_none (part_at a k) reports base q)
   not_past (Some m) q {r} i l =
       found (Some m) q
       ∙ by-lt reports (base + m.gap) (λ u. given-over reports k base m.gap m.count m.length u)
       (λ u.
-      let v : r ≡ record { first = base + m.gap; rest = passed part reports (k.at + m.length) (base + m.gap) reports }
-      = cc (read_some part reports k.at base q u) in
+      let v : r ≡ reading m.gap m.length = cc (read_some (part_at a k) reports base q u) in
       given_low reports k base m.gap m.count m.length (omega (arith, ap (λ (x : PartRead). x.first) v)))
 
-  first_read : (m : Decoded) → decoded (drop k.at part) ≡ Some m → base + m.gap ≤ reports → k.number < base + m.gap
-      → let o = passed part reports (k.at + m.length) (base + m.gap) reports in
-      Read a used reports h d (after k (record { first = base + m.gap; rest = o })) (n + (1 + o.postings))
+  first_read : (m : Decoded) (q : decoded (part_at a k) ≡ Some m) → base + m.gap ≤ reports → k.number < base + m.gap
+      → Read a used reports h d (after k (reading m.gap m.length)) (n + (1 + (reading m.gap m.length).rest.postings))
   unfolding part_end
   first_read m q u v =
       let c = past k (base + m.gap) m.length in
       let f : c.first ≡ base + m.gap = rw (eq-eqb k.first 0 w.unbegun) in
       let s : read_at a reports k base ≡ stepped (base + m.gap) m.count c
       = found (Some m) q ∙ given-at reports k base m.gap m.count m.length v u in
-      let t = sym (ap decoded (part_drop a k.block e k.at)) ∙ q in
-      let y : k.at ≤ e = omega (arith, part_within a k.block k.at e m.gap m.count m.length t, (decoded-within (drop k.at part) q).0) in
+      let y : k.at ≤ part_end k k.block
+      = by-lt (part_end k k.block) k.at (λ z. cc (decoded_past a k.block k.at (part_end k k.block) (omega arith))) (λ z. z) in
       let z : InPart a reports c = read_in_part a used reports k base (base + m.gap) m.count c w.follows y s in
-      let o = passed part reports (k.at + m.length) (base + m.gap) reports in
-      let j : n + (1 + o.postings) ≡ n + 1 + o.postings = omega arith in
+      let o = passed-within z reports k.at m.length refl in
+      let p = (reading m.gap m.length).rest in
+      let j : n + (1 + p.postings) ≡ n + 1 + p.postings = omega arith in
       subst
-      (λ (x : ℕ). Read a used reports h d (record k { at = o.at; number = o.number; first = x }) (n + (1 + o.postings)))
+      (λ (x : ℕ). Read a used reports h d (record k { at = k.at + p.at; number = p.number; first = x }) (n + (1 + p.postings)))
       f
       (record {
+        within = omega (arith, o.0.at_in, part_end_le k k.block w.follows.end_in);
         begun = z.begun;
         first_in_lem = rw f u;
-        counted = rw j (counted_on (first_counted s) (passed-within z reports));
-        early = λ x.
-            step_here a used reports _ x ∙ stopped_damage z reports (omega arith) (passed-stops part reports (k.at + m.length) (base + m.gap) reports) x;
+        counted = rw j (counted_on (first_counted s) o.1);
+        early = stopped_damage z reports k.at used p o (omega arith) (passed-stops (part_at a k) reports m.length (base + m.gap) reports);
       })
 
-  all_read : (x : Option Decoded) → decoded (drop k.at part) ≡ x → {r : PartRead} → Some r ≡ part_read part reports k.at base → k.number < r.first
+  all_read : (x : Option Decoded) → decoded (part_at a k) ≡ x → {r : PartRead} → Some r ≡ part_read (part_at a k) reports base → k.number < r.first
       → Read a used reports h d (after k r) (n + (1 + r.rest.postings))
-  all_read None q i l = cc (read_none part reports k.at base q)
+  all_read None q i l = cc (read_none (part_at a k) reports base q)
   all_read (Some m) q {r} i l =
-      by-lt reports (base + m.gap) (λ u. cc (read-over part reports k.at base q u))
-      (λ u.
-      let v : r ≡ record { first = base + m.gap; rest = passed part reports (k.at + m.length) (base + m.gap) reports }
-      = cc (read_some part reports k.at base q u) in
-      rw v (first_read m q u (rw v at l)))
+      by-lt reports (base + m.gap) (λ u. cc (read-over (part_at a k) reports base q u))
+      (λ u. let v : r ≡ reading m.gap m.length = cc (read_some (part_at a k) reports base q u) in rw v (first_read m q u (rw v at l)))
 
-  pub not_read : None ≡ part_read part reports k.at base → is_whole (chain_of a used reports h) ≡ false
-  not_read i = unread_damage (no_first (decoded (drop k.at part)) refl i)
+  pub not_read : None ≡ part_read (part_at a k) reports base → is_whole (chain_of a used reports h) ≡ false
+  not_read i = unread_damage (no_first (decoded (part_at a k)) refl i)
 
-  module _ {r : PartRead} (i : Some r ≡ part_read part reports k.at base) where
+  module _ {r : PartRead} (i : Some r ≡ part_read (part_at a k) reports base) where
     pub not-begun : r.first ≤ k.number → is_whole (chain_of a used reports h) ≡ false
-    not-begun l = unread_damage (not_past (decoded (drop k.at part)) refl i l)
+    not-begun l = unread_damage (not_past (decoded (part_at a k)) refl i l)
 
     pub block_read : k.number < r.first → Read a used reports h d (after k r) (n + (1 + r.rest.postings))
-    block_read l = all_read (decoded (drop k.at part)) refl i l
+    block_read l = all_read (decoded (part_at a k)) refl i l
 
 -- what a cursor at the start of the next block says: more blocks can come, the link leads there, and the cursor stands there
 pub entered_is : (c : Cursor) (next : Option ℕ) (e : Cursor) → entered_at c next ≡ Some e → (0 < c.left) × (next ≡ Some e.block) × (e ≡ entered c e.block)

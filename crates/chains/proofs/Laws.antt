@@ -60,7 +60,7 @@ module _ (a : List ℕ) (used reports : ℕ) (c : Cursor) {n : ℕ} {c' : Cursor
   step_follows {f} e = go (exhausted a c) refl
     where
       go : (x : Bool) → exhausted a c ≡ x → Stepped a used reports c n c'
-      go false q = gave c.block (λ w. w.in_use) (read_gave a reports c c.number n f c' (sym (step_here a used reports c q) ∙ e))
+      go false q = gave c.block (λ w. w.in_use) (read_gave a reports c _ n f c' (sym (step_here a used reports c q) ∙ e))
       go true q =
           by-eq c.first 0
           (λ p. cc (step_empty a used reports c q p))

@@ -153,16 +153,16 @@ module _ (part : List ℕ) (reports more to : ℕ) where
 
 -- ---- a part from its first posting on
 
-module _ (part : List ℕ) (reports at base : ℕ) where
-  module _ {g f l : ℕ} (e : decoded (drop at part) ≡ posting g f l) where
-    pub read_some : base + g ≤ reports → part_read part reports at base ≡ Some (record { first = base + g; rest = passed part reports (at + l) (base + g) reports })
+module _ (part : List ℕ) (reports base : ℕ) where
+  module _ {g f l : ℕ} (e : decoded part ≡ posting g f l) where
+    pub read_some : base + g ≤ reports → part_read part reports base ≡ Some (record { first = base + g; rest = passed part reports l (base + g) reports })
     unfolding part_read opened
     read_some h = rw (e, le-leb (base + g) reports h)
 
-    pub read-over : reports < base + g → part_read part reports at base ≡ None
+    pub read-over : reports < base + g → part_read part reports base ≡ None
     unfolding part_read opened
     read-over h = rw (e, lt-leb (base + g) reports h)
 
-  pub read_none : decoded (drop at part) ≡ None → part_read part reports at base ≡ None
+  pub read_none : decoded part ≡ None → part_read part reports base ≡ None
   unfolding part_read opened
   read_none e = rw e

@@ -2,25 +2,26 @@
 -- Assumes nothing.
 use Prim.Native.Nat.{ℕ, ◌+◌, ◌≤◌, ◌<◌}
 use mathlib.Core.Path.{◌≡◌, sym, ◌∙◌}
-use mathlib.Core.Bool.{Bool, true, false, cond, ◌&&◌, ◌||◌}
+use mathlib.Core.Bool.{Bool, true, false, cond, ◌||◌}
 use mathlib.Core.List.{List}
 use Rattle.std.specs.Prelude.{Option, Some, None}
 use native.Mathlib.Omega.{arith}
-use lib.Dec.{ltb, leb, eqb}
+use lib.Dec.{leb, eqb}
 use borrow.Author.Tests.{ne_eqb}
 use Rattle.postings.specs.Coding.{decoded}
 use Rattle.postings.specs.declared.Decoded.{Decoded}
+use Rattle.basics.proofs.Cases.{by-lt}
 use Rattle.blocks.specs.Fields.{link_size, link_of, part_of}
 use Rattle.chains.specs.declared.Cursor.{Cursor}
-use Rattle.chains.specs.Chains.{stepped, at_end, damage, part_end, given, read_at, entered, next_block}
+use Rattle.chains.specs.Chains.{stepped, at_end, damage, part_end, part_at, given, read_at, entered, next_block}
 use Rattle.chains.specs.Parts.{moved_to}
-use Rattle.chains.proofs.Steps.{given-none, given-at, given_is}
+use Rattle.chains.proofs.Steps.{given-none, given_low, given-over, given-at, given_is}
 
 -- a posting behind the block's first moves only the offset and the number
 pub read-moved : (a : List ℕ) (reports : ℕ) (c : Cursor) (n f : ℕ) (c' : Cursor) → 0 < c.first → read_at a reports c c.number ≡ stepped n f c'
     → (at : ℕ) × (c' ≡ moved_to c at n)
 unfolding read_at
-read-moved a reports c n f c' h e = go (decoded (part_of a c.block c.at (part_end c c.block))) e
+read-moved a reports c n f c' h e = go (decoded (part_at a c)) e
   where
     go : (x : Option Decoded) → given reports c c.number x ≡ stepped n f c' → (at : ℕ) × (c' ≡ moved_to c at n)
     go None e = cc (given-none reports c c.number)
@@ -52,17 +53,17 @@ module _ (a : List ℕ) (used reports : ℕ) (c : Cursor) (at : ℕ) {number n f
 
 -- a block's posting is read or damaged: only a step from a block's end finds the chain's end
 given_more : (reports : ℕ) (c : Cursor) (base : ℕ) (x : Option Decoded) → given reports c base x ≡ at_end → ⊥
-unfolding given
-given_more reports c base None e = cc
-given_more reports c base (Some d) e = go (ltb c.number (base + d.gap) && leb (base + d.gap) reports) _ e
-  where
-    go : (x : Bool) (c' : Cursor) → cond x (stepped (base + d.gap) d.count c') damage ≡ at_end → ⊥
-    go true c' e = cc
-    go false c' e = cc
+given_more reports c base None e = cc (given-none reports c base)
+given_more reports c base (Some d) e =
+    by-lt reports (base + d.gap) (λ u. cc (given-over reports c base d.gap d.count d.length u))
+    (λ u.
+    by-lt c.number (base + d.gap)
+    (λ h. cc (given-at reports c base d.gap d.count d.length h u))
+    (λ h. cc (given_low reports c base d.gap d.count d.length h)))
 
 pub read_more : (a : List ℕ) (reports : ℕ) (c : Cursor) (base : ℕ) → read_at a reports c base ≡ at_end → ⊥
 unfolding read_at
-read_more a reports c base e = given_more reports c base (decoded (part_of a c.block c.at (part_end c c.block))) e
+read_more a reports c base e = given_more reports c base (decoded (part_at a c)) e
 
 pub next_more : (a : List ℕ) (used reports : ℕ) (c : Cursor) → next_block a used reports c ≡ at_end → ⊥
 unfolding next_block

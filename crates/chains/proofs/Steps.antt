@@ -7,7 +7,7 @@ use mathlib.Core.List.{List}
 use Rattle.std.specs.Prelude.{Option, Some, None}
 use native.Mathlib.Omega.{arith}
 use lib.Dec.{eqb, leb}
-use lib.ListN.{length, take, drop, length-take, length-drop, drop_of_length-le}
+use lib.ListN.{length, take, drop, length-take}
 use borrow.Author.Tests.{lt-ltb, le-ltb, le-leb, lt-leb, eq-eqb, ne_eqb, leb-false}
 use Rattle.basics.proofs.Cases.{by-lt, by-eq}
 use Rattle.basics.proofs.Lists.{or_left}
@@ -17,7 +17,7 @@ use Rattle.postings.specs.declared.Decoded.{Decoded}
 use Rattle.blocks.specs.Fields.{block_size, place, link_of, part_of}
 use Rattle.chains.specs.declared.Cursor.{Cursor}
 use Rattle.chains.specs.declared.Step.{Step}
-use Rattle.chains.specs.Chains.{stepped, at_end, damage, part_end, exhausted, given, read_at, entered, next_block, step_at}
+use Rattle.chains.specs.Chains.{stepped, at_end, damage, part_end, part_at, exhausted, past, step_to, given, read_at, entered, next_block, step_at}
 
 -- ---- the end of a block's part
 
@@ -47,20 +47,17 @@ part_is a b at to start e p q =
     rw (p, q, k)
 
 -- nothing is decoded from the part's end on, and what is decoded ends in the part
-pub decoded_past : (part : List ℕ) (at : ℕ) → length part ≤ at → decoded (drop at part) ≡ None
-decoded_past part at h = ap decoded (drop_of_length-le part h) ∙ decoded-nil
+pub decoded_past : (a : List ℕ) (b at to : ℕ) → to ≤ at → decoded (part_of a b at to) ≡ None
+unfolding part_of
+decoded_past a b at to h = let z : to - at ≡ 0 = omega arith in rw z decoded-nil
 
-pub decoded_ends : (part : List ℕ) (at : ℕ) (d : Decoded) → decoded (drop at part) ≡ Some d → at < length part → at + d.length ≤ length part
-decoded_ends part at d e h = omega (arith, simp length-drop at (decoded-within (drop at part) e).1)
+pub decoded_ends : (s : List ℕ) (d : Decoded) → decoded s ≡ Some d → d.length ≤ length s
+decoded_ends s d e = (decoded-within s e).1
 
 -- a posting lies within its part
 pub part_within : (a : List ℕ) (b at to g f l : ℕ) → decoded (part_of a b at to) ≡ posting g f l → l ≤ to - at
 unfolding part_of
 part_within a b at to g f l e = omega (arith, simp length-take at (decoded-within (part_of a b at to) e).1)
-
--- the cursor past a posting of l bytes with number n
-abbrev pub past : Cursor → ℕ → ℕ → Cursor
-past c n l = record c { at = c.at + l; number = n; first = cond (eqb c.first 0) n c.first }
 
 module _ (reports : ℕ) (c : Cursor) (base : ℕ) where
   pub given-none : given reports c base None ≡ damage
@@ -68,19 +65,18 @@ module _ (reports : ℕ) (c : Cursor) (base : ℕ) where
   given-none = refl
 
   module _ (g f l : ℕ) where
-    pub given_low : base + g ≤ c.number → given reports c base (posting g f l) ≡ damage
-    unfolding given
-    given_low h = rw (le-ltb c.number (base + g) h)
-
     pub given-over : reports < base + g → given reports c base (posting g f l) ≡ damage
-    unfolding given
-    given-over k =
-        by-lt c.number (base + g) (λ h. rw (lt-ltb c.number (base + g) h, lt-leb (base + g) reports k)) (λ h. given_low h)
+    unfolding given step_to
+    given-over k = rw (lt-leb (base + g) reports k)
+
+    pub given_low : base + g ≤ c.number → given reports c base (posting g f l) ≡ damage
+    unfolding given step_to
+    given_low h = by-lt reports (base + g) given-over (λ k. rw (le-leb (base + g) reports k, le-ltb c.number (base + g) h))
 
     pub given-at : c.number < base + g → base + g ≤ reports
         → given reports c base (posting g f l) ≡ stepped (base + g) f (past c (base + g) l)
-    unfolding given
-    given-at h k = rw (lt-ltb c.number (base + g) h, le-leb (base + g) reports k)
+    unfolding given step_to
+    given-at h k = rw (le-leb (base + g) reports k, lt-ltb c.number (base + g) h)
 
 -- equal steps to a posting have the same number and count, and lead to the same place
 pub same_step : {n n' f f' : ℕ} {c c' : Cursor} → stepped n f c ≡ stepped n' f' c' → (n ≡ n') × (f ≡ f') × (c ≡ c')
@@ -134,7 +130,7 @@ given_gave reports c base (Some d) n f c' e =
 pub read_gave : (a : List ℕ) (reports : ℕ) (c : Cursor) (base n f : ℕ) (c' : Cursor) → read_at a reports c base ≡ stepped n f c'
     → Gave reports c c.block n c'
 unfolding read_at
-read_gave a reports c base n f c' e = given_gave reports c base (decoded (part_of a c.block c.at (part_end c c.block))) n f c' e
+read_gave a reports c base n f c' e = given_gave reports c base (decoded (part_at a c)) n f c' e
 
 -- ---- the next block, and one step
 
@@ -167,9 +163,13 @@ module _ (a : List ℕ) (used reports : ℕ) (c : Cursor) where
   unfolding step_at
   step_next e n m = rw (e, ne_eqb c.first 0 n, ne_eqb c.block c.tail m)
 
-  pub step_here : exhausted a c ≡ false → step_at a used reports c ≡ read_at a reports c c.number
+  pub step_here : exhausted a c ≡ false → step_at a used reports c ≡ read_at a reports c (cond (eqb c.first 0) 0 c.number)
   unfolding step_at
   step_here e = rw e
+
+  -- behind a block's first posting
+  pub step_on : exhausted a c ≡ false → 0 < c.first → step_at a used reports c ≡ read_at a reports c c.number
+  step_on e h = step_here e ∙ rw (ne_eqb c.first 0 (λ z. omega arith))
 
 -- what the steps in a part need of its bounds and bytes
 pub ruleset in_part = (part_end_le, part_is, decoded_past, decoded_ends, length-take)

@@ -1,7 +1,7 @@
 -- Reading a chain of blocks (document 01, "Blocks"; its damage as "Where each refusal is checked" lists it for
 -- listing).
 use Rattle.std.specs.Prelude.{ℕ, zero, suc, ◌+◌, ◌-◌, ◌≤◌, ◌<◌, List, [], ◌∷◌, Option, Some, None, Result, Ok, Err, Bool, true, false, cond, ◌&&◌, ◌||◌, ltb, leb, eqb, length, get_or}
-use Rattle.postings.specs.Coding.{decoded}
+use Rattle.postings.specs.Coding.{counted, decoded}
 use Rattle.postings.specs.declared.Decoded.{Decoded}
 use Rattle.blocks.specs.declared.Head.{Head}
 use Rattle.blocks.specs.Fields.{block_size, head_fixed, link_size, capacity, place, link_of, head_of, part_start, part_of}
@@ -19,6 +19,10 @@ use Rattle.refusals.specs.declared.Refusal.TheVariants.{Damaged}
 -- where the postings part of block b ends
 unfoldable pub part_end : Cursor → ℕ → ℕ
 part_end c b = cond (eqb b c.tail) c.end block_size
+
+-- the bytes of the cursor's part, from the cursor on
+abbrev pub part_at : List ℕ → Cursor → List ℕ
+part_at a c = part_of a c.block c.at (part_end c c.block)
 
 -- the block's part is read: to the write offset in the tail, elsewhere to the block's end or a null byte
 unfoldable pub exhausted : List ℕ → Cursor → Bool
@@ -39,17 +43,28 @@ at_end = Ok None
 abbrev pub damage : Stepped
 damage = Err Damaged
 
--- the posting that stands at the cursor, its gap counted from `base`: damage if there is none, or its number is not
--- past the last one or over reports
+-- a number that was counted, where it is past the last one
+abbrev pub past_last : ℕ → Option ℕ → Option ℕ
+past_last last (Some n) = cond (ltb last n) (Some n) None
+past_last last None = None
+
+-- the cursor past a posting of l bytes with number n
+abbrev pub past : Cursor → ℕ → ℕ → Cursor
+past c n l = record c { at = c.at + l; number = n; first = cond (eqb c.first 0) n c.first }
+
+-- the step to a posting with number n: damage where none was counted
+unfoldable pub step_to : Cursor → Decoded → Option ℕ → Stepped
+step_to c d (Some n) = stepped n d.count (past c n d.length)
+step_to c d None = damage
+
+-- the posting that stands at the cursor, its gap counted from `base`: damage if there is none, or its number is over
+-- reports or not past the last one
 unfoldable pub given : ℕ → Cursor → ℕ → Option Decoded → Stepped
-given reports c base (Some d) =
-    let n = base + d.gap in
-    cond (ltb c.number n && leb n reports)
-    (stepped n d.count (record c { at = c.at + d.length; number = n; first = cond (eqb c.first 0) n c.first })) damage
+given reports c base (Some d) = step_to c d (past_last c.number (counted reports base d.gap))
 given reports c base None = damage
 
 unfoldable pub read_at : List ℕ → ℕ → Cursor → ℕ → Stepped
-read_at a reports c base = given reports c base (decoded (part_of a c.block c.at (part_end c c.block)))
+read_at a reports c base = given reports c base (decoded (part_at a c))
 
 -- the block that a block's link leads to, where it is used
 abbrev pub linked : List ℕ → ℕ → ℕ → Option ℕ
@@ -70,12 +85,13 @@ next_block a used reports c =
     let b = link_of a c.block in
     cond (eqb c.left 0 || leb used b) damage (read_at a reports (entered c b) c.first)
 
--- one step. Every other posting of a block carries a d-gap; a block without a posting is damage
+-- one step. A head's first gap counts from 0; every posting but a block's first carries a d-gap, counted from the last
+-- number. A block without a posting is damage
 unfoldable pub step_at : List ℕ → ℕ → ℕ → Cursor → Stepped
 step_at a used reports c =
     cond (exhausted a c)
     (cond (eqb c.first 0) damage (cond (eqb c.block c.tail) at_end (next_block a used reports c)))
-    (read_at a reports c c.number)
+    (read_at a reports c (cond (eqb c.first 0) 0 c.number))
 
 -- a place in a used block of the arena, with a write offset that lies in a block
 unfoldable pub is_place : List ℕ → ℕ → Cursor → Bool

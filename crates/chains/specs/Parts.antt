@@ -1,13 +1,13 @@
 -- Reading on within one block's part, posting by posting.
-use Rattle.std.specs.Prelude.{ℕ, zero, suc, ◌+◌, ◌≤◌, ◌<◌, List, Option, Some, None, cond, ◌&&◌, ltb, leb, length, drop}
+use Rattle.std.specs.Prelude.{◌≡◌, ℕ, zero, suc, ◌+◌, ◌≤◌, ◌<◌, List, Option, Some, None, cond, ◌&&◌, ltb, leb, length, drop}
 use Rattle.postings.specs.Coding.{decoded}
 use Rattle.postings.specs.declared.Decoded.{Decoded}
 use Rattle.sums.specs.declared.Sum.{Sum}
 use Rattle.sums.specs.Adding.{sum_of, further, Bounded}
-use Rattle.blocks.specs.Fields.{block_size, place, part_of}
+use Rattle.blocks.specs.Fields.{block_size, place}
 use Rattle.chains.specs.declared.Cursor.{Cursor}
 use Rattle.chains.specs.declared.PartRead.{PartRead}
-use Rattle.chains.specs.Chains.{part_end}
+use Rattle.chains.specs.Chains.{part_end, part_at, stepped, step_at}
 
 -- ---- over the bytes of a part
 
@@ -32,16 +32,16 @@ pass_from (suc fuel) part reports to p =
 unfoldable pub passed : List ℕ → ℕ → ℕ → ℕ → ℕ → Passed
 passed part reports at number to = pass_from (length part) part reports to (sum_of at number)
 
--- a whole part: its first posting, whose gap counts from `base`, and all behind it. None where no posting stands there
--- whose number is at most reports
-unfoldable pub opened : List ℕ → ℕ → ℕ → ℕ → Option Decoded → Option PartRead
-opened part reports at base (Some d) =
+-- a whole part: its first posting, whose gap counts from `base`, and all behind it. None where no posting stands at its
+-- front whose number is at most reports
+unfoldable pub opened : List ℕ → ℕ → ℕ → Option Decoded → Option PartRead
+opened part reports base (Some d) =
     let first = base + d.gap in
-    cond (leb first reports) (Some (record { first = first; rest = passed part reports (at + d.length) first reports })) None
-opened part reports at base None = None
+    cond (leb first reports) (Some (record { first = first; rest = passed part reports d.length first reports })) None
+opened part reports base None = None
 
-unfoldable pub part_read : List ℕ → ℕ → ℕ → ℕ → Option PartRead
-part_read part reports at base = opened part reports at base (decoded (drop at part))
+unfoldable pub part_read : List ℕ → ℕ → ℕ → Option PartRead
+part_read part reports base = opened part reports base (decoded part)
 
 -- ---- with a cursor
 
@@ -52,7 +52,11 @@ moved_to c at n = record c { at = at; number = n }
 -- the cursor behind what is passed of its block's part
 unfoldable pub passed_to : List ℕ → ℕ → Cursor → ℕ → Cursor
 passed_to a reports c to =
-    let p = passed (part_of a c.block 0 (part_end c c.block)) reports c.at c.number to in moved_to c p.at p.number
+    let p = passed (part_at a c) reports 0 c.number to in moved_to c (c.at + p.at) p.number
+
+-- the cursor's next posting, report n with count f, stands in the same part: it is given whatever blocks are used
+abbrev pub StepsIn : List ℕ → ℕ → Cursor → ℕ → ℕ → Cursor → Type 0
+StepsIn a reports c n f c' = (used : ℕ) → step_at a used reports c ≡ stepped n f c'
 
 -- a cursor behind the first posting of its block
 pub record InPart (a : List ℕ) (reports : ℕ) (c : Cursor) : Type 0 where
@@ -64,4 +68,4 @@ pub record InPart (a : List ℕ) (reports : ℕ) (c : Cursor) : Type 0 where
 
 -- no number of its block's part from there on is over reports
 abbrev pub Known : List ℕ → ℕ → Cursor → Type 0
-Known a reports c = Bounded (part_of a c.block 0 (part_end c c.block)) reports c.at c.number
+Known a reports c = Bounded (part_at a c) reports 0 c.number

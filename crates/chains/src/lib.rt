@@ -3,15 +3,17 @@
 #![tactic(auto)]
 
 ghost use Rattle.std.specs.Prelude.{◌≡◌, cond, false, IfSome, ◌&&◌, ℕ, ◌+◌, ◌-◌, ◌≤◌, ◌<◌, ltb, eqb, length};
+ghost use Rattle.postings.specs.Coding.{counted, decoded};
 ghost use Rattle.sums.specs.Adding.{Bounded};
-ghost use Rattle.blocks.specs.Fields.{max_word, block_size, place, link_of, part_of};
-ghost use Rattle.chains.specs.Chains.{part_end, exhausted, read_at, entered_at, next_block, step_at, step_from, at_head, bad_head, chain_of, is_whole, linked, Follows};
+ghost use Rattle.blocks.specs.Fields.{max_word, block_size, place, link_of};
+ghost use Rattle.chains.specs.Chains.{part_end, part_at, exhausted, past, past_last, read_at, entered_at, next_block, step_at, step_from, at_head, bad_head, chain_of, is_whole, linked, Follows};
 ghost use Rattle.chains.specs.Parts.{passed, moved_to, passed_to, InPart, Known, part_read};
 
 mod part;
 
 use blocks::{Head, Used};
 pub use part::{Part, Posting};
+use postings::{DGap, Decoded};
 use refusals::Refusal;
 use sums::Sum;
 
@@ -57,43 +59,73 @@ pub fn part_end(c: Cursor) -> usize
     if c.block == c.tail { c.end } else { 64 }
 }
 
-// The bytes of the cursor's part from an offset on.
+// The bytes of the cursor's part, from the cursor on: whoever reads a block's postings reads in them, from offset 0.
 #[tactic(auto, using(crate::proofs::Steps::in_part))]
-fn part_bytes<'a>(arena: &'a [u8], c: Cursor, from: usize) -> &'a [u8]
-    requires { (place c.block + block_size ≤ length arena.now) × (c.end ≤ block_size) × (from ≤ part_end c c.block) }
-    ensures is { result.now ≡ part_of arena.now c.block from (part_end c c.block) }
-    ensures length { length result.now ≡ part_end c c.block - from }
+fn part_bytes<'a>(arena: &'a [u8], c: Cursor) -> &'a [u8]
+    requires { (place c.block + block_size ≤ length arena.now) × (c.end ≤ block_size) × (c.at ≤ part_end c c.block) }
+    ensures is { result.now ≡ part_at arena.now c }
+    ensures length { length result.now ≡ part_end c c.block - c.at }
 {
     let start = blocks::place_of(c.block);
-    &arena[start + from..start + part_end(c)]
+    &arena[start + c.at..start + part_end(c)]
 }
 
-// The posting at the cursor, its gap counted from `base`.
-#[tactic(auto, using(crate::proofs::Steps::in_part), unfolding(crate::specs::Chains::read_at, crate::specs::Chains::given))]
-fn read_at(arena: &[u8], reports: u32, c: Cursor, base: u32) -> Result<Option<Step>, Refusal>
-    requires { (place c.block + 64 ≤ length arena.now) × (c.end ≤ 64) × (c.at ≤ part_end c c.block) }
-    ensures { result ≡ read_at arena.now reports c base }
+// The posting at the cursor.
+#[tactic(auto, using(crate::proofs::Steps::in_part))]
+fn posting_at(arena: &[u8], c: Cursor) -> Option<Decoded>
+    requires { (place c.block + block_size ≤ length arena.now) × (c.end ≤ block_size) × (c.at ≤ part_end c c.block) }
+    ensures is { result ≡ decoded (part_at arena.now c) }
+    ensures within { IfSome result (λ d. c.at + d.length ≤ part_end c c.block) }
 {
-    let Some(d) = postings::decode(part_bytes(arena, c, c.at)) else {
-        return Err(Refusal::Damaged);
-    };
-    if reports < base || reports - base < d.gap {
-        return Err(Refusal::Damaged);
-    }
-    let number = base + d.gap;
-    if number <= c.number {
-        return Err(Refusal::Damaged);
-    }
-    Ok(Some(Step {
-        number,
+    postings::decode(part_bytes(arena, c))
+}
+
+// A number that was counted, where it is past the last one.
+fn past_last(last: u32, number: Option<u32>) -> Option<u32>
+    ensures { result ≡ past_last last number }
+{
+    let n = number?;
+    (last < n).then_some(n)
+}
+
+// The step to a posting with number n.
+fn step_to(c: Cursor, d: Decoded, n: u32) -> Step
+    requires { c.at + d.length ≤ max_word }
+    ensures { result ≡ record { number = n; count = d.count; next = past c n d.length } }
+{
+    Step {
+        number: n,
         count: d.count,
         next: Cursor {
             at: c.at + d.length,
-            number,
-            first: if c.first == 0 { number } else { c.first },
+            number: n,
+            first: if c.first == 0 { n } else { c.first },
             ..c
         },
-    }))
+    }
+}
+
+// The first posting of a block, at the cursor: its b-gap counts from the first number of the block before, at a head
+// from 0.
+#[tactic(auto, using(crate::proofs::Steps::in_part), unfolding(crate::specs::Chains::read_at, crate::specs::Chains::given, crate::specs::Chains::step_to))]
+fn read_first(arena: &[u8], reports: u32, c: Cursor, first: u32) -> Result<Option<Step>, Refusal>
+    requires { (place c.block + block_size ≤ length arena.now) × (c.end ≤ block_size) × (c.at ≤ part_end c c.block) }
+    ensures { result ≡ read_at arena.now reports c first }
+{
+    let d = posting_at(arena, c).ok_or(Refusal::Damaged)?;
+    let n = past_last(c.number, d.b_gap().from_first(first, reports)).ok_or(Refusal::Damaged)?;
+    Ok(Some(step_to(c, d, n)))
+}
+
+// Any other posting of a block, at the cursor: its d-gap counts from the last number.
+#[tactic(auto, using(crate::proofs::Steps::in_part), unfolding(crate::specs::Chains::read_at, crate::specs::Chains::given, crate::specs::Chains::step_to))]
+fn read_next(arena: &[u8], reports: u32, c: Cursor) -> Result<Option<Step>, Refusal>
+    requires { (place c.block + block_size ≤ length arena.now) × (c.end ≤ block_size) × (c.at ≤ part_end c c.block) }
+    ensures { result ≡ read_at arena.now reports c c.number }
+{
+    let d = posting_at(arena, c).ok_or(Refusal::Damaged)?;
+    let n = past_last(c.number, d.d_gap().from_last(c.number, reports)).ok_or(Refusal::Damaged)?;
+    Ok(Some(step_to(c, d, n)))
 }
 
 // The block that a block's link leads to, where it is used.
@@ -137,10 +169,11 @@ pub fn next_block(used: Used, reports: u32, c: Cursor) -> Result<Option<Step>, R
     ensures { result ≡ next_block used.entry.arena.now used.entry.blocks reports c }
 {
     let next = entered(c, linked(used, c.block)).ok_or(Refusal::Damaged)?;
-    read_at(used.arena, reports, next, c.first)
+    read_first(used.arena, reports, next, c.first)
 }
 
 // One posting after another: the one at the cursor with the cursor past it; none at the chain's end.
+#[inline(always)]
 #[tactic(auto, using(crate::proofs::Steps::stepping), unfolding(crate::specs::Chains::step_at))]
 pub fn advance(used: Used, reports: u32, c: Cursor) -> Result<Option<Step>, Refusal>
     requires { Follows used.arena.now used.blocks c × (4 ≤ c.end) }
@@ -155,7 +188,10 @@ pub fn advance(used: Used, reports: u32, c: Cursor) -> Result<Option<Step>, Refu
         }
         return next_block(used, reports, c);
     }
-    read_at(used.arena, reports, c, c.number)
+    if c.first == 0 {
+        return read_first(used.arena, reports, c, 0);
+    }
+    read_next(used.arena, reports, c)
 }
 
 // ---- several steps within a block's part
@@ -164,9 +200,21 @@ pub fn advance(used: Used, reports: u32, c: Cursor) -> Result<Option<Step>, Refu
 // passed.
 pub type Passed = Sum<u32>;
 
+// The number that a posting's gap leads to from the last one, where it is not over reports. Where that is known, as in a
+// chain that was read whole before, it is not judged again.
+fn next_number<const JUDGED: bool>(gap: DGap, last: u32, reports: u32) -> Option<u32>
+    requires { JUDGED ≡ false → last + gap.0 ≤ reports }
+    ensures { result ≡ counted reports last gap.0 }
+{
+    if JUDGED {
+        return gap.from_last(last, reports);
+    }
+    Some(gap.behind(last))
+}
+
 // Reads on in a block's part while numbers are below `to`: to the part's end, or to where no sound posting stands. One
-// loop over plain numbers, without a cursor for each posting. Where no number of the part is over reports, as in a
-// chain that was read whole before, none is judged again.
+// loop over plain numbers, without a cursor for each posting. Where no number of the part is over reports none is
+// judged.
 pub fn pass<const JUDGED: bool>(
     part: &[u8],
     reports: u32,
@@ -187,10 +235,10 @@ pub fn pass<const JUDGED: bool>(
         let Some(d) = postings::decode_at(part, p.at) else {
             break;
         };
-        if JUDGED && reports - p.number < d.gap {
+        let Some(n) = next_number::<JUDGED>(d.d_gap(), p.number, reports) else {
             break;
-        }
-        p.number += d.gap;
+        };
+        p.number = n;
         p.at += d.length;
         p.postings += 1;
     }
@@ -201,7 +249,7 @@ pub fn pass<const JUDGED: bool>(
 // judged; only where that is over reports, so that the part is damaged, it is read again for the posting that is.
 #[tactic(auto, using(crate::proofs::Added::added_passed))]
 fn pass_all(part: &[u8], reports: u32, at: usize, number: u32) -> Passed
-    requires { (number ≤ reports) × (length part.now ≤ block_size) }
+    requires { (number ≤ reports) × (length part.now ≤ max_word) }
     ensures { result ≡ passed part.now reports at number reports }
 {
     let all = sums::add_all(part, at, number);
@@ -229,8 +277,8 @@ pub fn pass_part(arena: &[u8], c: Cursor, to: u32) -> Cursor
     requires { InPart arena.now max_word c × Known arena.now max_word c }
     ensures { (reports : ℕ) → Known arena.now reports c → result ≡ passed_to arena.now reports c to }
 {
-    let p = pass::<false>(part_bytes(arena, c, 0), u32::MAX, c.at, c.number, to);
-    moved(c, p.at, p.number)
+    let p = pass::<false>(part_bytes(arena, c), u32::MAX, 0, c.number, to);
+    moved(c, c.at + p.at, p.number)
 }
 
 // ---- a reader that holds the arena and a place
@@ -315,19 +363,16 @@ pub fn at_head(d: Head, used: u32, h: u32) -> Cursor
 // behind it. None where no sound posting stands there.
 #[tactic(auto, using(crate::proofs::Steps::in_part), unfolding(crate::specs::Parts::part_read, crate::specs::Parts::opened))]
 fn read_part(arena: &[u8], reports: u32, c: Cursor, base: u32) -> Option<PartRead>
-    requires { (place c.block + 64 ≤ length arena.now) × (c.end ≤ block_size) × (base ≤ reports) }
-    ensures { result ≡ part_read (part_of arena.now c.block 0 (part_end c c.block)) reports c.at base }
+    requires { (place c.block + block_size ≤ length arena.now) × (c.end ≤ block_size) × (base ≤ reports) }
+    ensures { result ≡ part_read (part_at arena.now c) reports base }
 {
-    let part = part_bytes(arena, c, 0);
-    if part.len() <= c.at {
+    if part_end(c) <= c.at {
         return None;
     }
-    let d = postings::decode_at(part, c.at)?;
-    if reports - base < d.gap {
-        return None;
-    }
-    let first = base + d.gap;
-    let rest = pass_all(part, reports, c.at + d.length, first);
+    let part = part_bytes(arena, c);
+    let d = postings::decode(part)?;
+    let first = d.b_gap().from_first(base, reports)?;
+    let rest = pass_all(part, reports, d.length, first);
     Some(PartRead { first, rest })
 }
 
@@ -364,7 +409,7 @@ pub fn is_sound(used: Used, reports: u32, h: u32) -> bool
         }
         n += 1 + r.rest.postings;
         c = Cursor {
-            at: r.rest.at,
+            at: c.at + r.rest.at,
             number: r.rest.number,
             first: r.first,
             ..c

@@ -2,9 +2,10 @@
 
 ghost use Rattle.std.specs.Prelude.{◌≤◌, length};
 ghost use Rattle.sums.specs.Adding.{Bounded};
-ghost use Rattle.blocks.specs.Fields.{max_word, block_size};
+ghost use Rattle.blocks.specs.Fields.{max_word};
+ghost use Rattle.chains.specs.Chains.{part_end};
 
-use crate::{Cursor, part_bytes};
+use crate::{Cursor, moved, part_bytes, part_end};
 
 // A report of the chain, and the count there.
 #[derive(Clone, Copy)]
@@ -13,48 +14,58 @@ pub struct Posting {
     pub count: u32,
 }
 
-// The bytes of a block's part and a place behind one of its postings. No number behind it is over 32 bits, so that none
-// is judged again.
+// A place behind one of the postings of a block's part: the bytes of the part that are left, and the number of that
+// posting. The block and its part's end are those of the cursor where it began. No number that is left is over 32 bits,
+// so that none is judged again.
 #[derive(Clone, Copy)]
 pub struct Part<'a> {
     bytes: &'a [u8],
-    pub place: Cursor,
-    ghost few: { length bytes.now ≤ block_size },
-    ghost within: { place.at ≤ length bytes.now },
-    ghost known: { Bounded bytes.now max_word place.at place.number },
+    from: Cursor,
+    pub number: u32,
+    ghost within: { length bytes.now ≤ part_end from from.block },
+    ghost known: { Bounded bytes.now max_word 0 number },
 }
 
 impl<'a> Part<'a> {
     ghost use Rattle.std.specs.Prelude.{ℕ, ◌≡◌};
     ghost use Rattle.chains.specs.Parts.{InPart, Known};
-    ghost use Rattle.chains.specs.Going.{Walks, Goes};
+    ghost use Rattle.chains.specs.Going.{place_of, Walks, Goes};
 
     // The part of the cursor's block, from the cursor on.
     #[tactic(auto, using(crate::proofs::Steps::part_end_le))]
     pub fn new(arena: &'a [u8], c: Cursor) -> Self
         requires { InPart arena.now max_word c × Known arena.now max_word c }
-        ensures place { result.place ≡ c }
+        ensures place { place_of result ≡ c }
         ensures walks { (reports : ℕ) → InPart arena.entry.now reports c → Known arena.entry.now reports c → Walks arena.entry.now reports result }
     {
         Part {
-            bytes: part_bytes(arena, c, 0),
-            place: c,
+            bytes: part_bytes(arena, c),
+            from: c,
+            number: c.number,
         }
     }
 
+    // The cursor there.
+    pub fn place(self) -> Cursor
+        ensures { result ≡ place_of self.entry }
+    {
+        moved(
+            self.from,
+            part_end(self.from) - self.bytes.len(),
+            self.number,
+        )
+    }
+
     // One posting after another: none at the part's end, nor where no posting stands.
-    #[tactic(auto, using(sums::proofs::Adding::bounded_on, sums::proofs::Adding::bounded_here, crate::proofs::Steps::decoded_ends))]
+    #[tactic(auto, using(crate::proofs::Parts::bounded_next, sums::proofs::Adding::bounded_here, crate::proofs::Steps::decoded_ends))]
     pub fn next(&mut self) -> Option<Posting>
         ensures { Goes self.old result self.new }
     {
-        if self.bytes.len() <= self.place.at {
-            return None;
-        }
-        let d = postings::decode_at(self.bytes, self.place.at)?;
-        self.place.number += d.gap;
-        self.place.at += d.length;
+        let d = postings::decode(self.bytes)?;
+        self.bytes = &self.bytes[d.length..];
+        self.number = d.d_gap().behind(self.number);
         Some(Posting {
-            number: self.place.number,
+            number: self.number,
             count: d.count,
         })
     }

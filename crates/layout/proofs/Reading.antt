@@ -13,7 +13,7 @@ use Rattle.basics.proofs.Parts.{get_or-inside, get_or-snoc}
 use Rattle.blocks.specs.Fields.{block_size, link_size, place, link_of, part_start, part_of}
 use Rattle.blocks.specs.Prescribed.{Posting}
 use Rattle.chains.specs.declared.Cursor.{Cursor}
-use Rattle.chains.specs.Chains.{part_end, read_at, entered, whole, onto, follow, run, at_head, bad_head, last_from, agreeing, chain_of}
+use Rattle.chains.specs.Chains.{part_end, part_at, past, read_at, entered, whole, onto, follow, run, at_head, bad_head, last_from, agreeing, chain_of}
 use Rattle.layout.specs.Chains.{After, Rising, none, next, Entry, coded, codes, Block, entries, Chain, blocks, block_in}
 use Rattle.layout.specs.Held.{Held, postings_of, block_no, head_no, tail_no, start_of, chain, head_for, link_at, written, block_bytes, codes_at}
 use Rattle.layout.proofs.Chains.{numbers, restored, start_at, Holds, offset_in_lem}
@@ -21,7 +21,9 @@ use Rattle.layout.proofs.Held.{tail_at, chain-holds, nos-closed}
 use Rattle.layout.proofs.Arena.{part_block}
 use Rattle.layout.proofs.Forms.{part_form}
 use Rattle.layout.proofs.Standing.{Standing, block_in_lem, head-is, link_is}
-use Rattle.layout.proofs.Steps.{ahead, moved, ahead-moved, reads_entry, step_in, step_next, step_end}
+use Rattle.chains.proofs.Steps.{step_on}
+use Rattle.chains.proofs.Parts.{unread, step_first}
+use Rattle.layout.proofs.Steps.{behind_entry, entry_found, reads_entry, step_next, step_end}
 
 -- ---- postings that can be read behind number n: they rise, up to reports at most, and there are enough steps
 
@@ -63,9 +65,9 @@ module _ (a : List ℕ) (used reports tail end block first left : ℕ) (some : 0
 
   -- they are read one after the other, and then what stands behind the block
   run_block : (es : List Entry) (rest : List Posting) (z fuel at n : ℕ) → first ≤ n
-      → ahead a (here at n) ≡ codes es ++ replicate z 0
+      → part_at a (here at n) ≡ codes es ++ replicate z 0
       → Readable reports fuel n (numbers n es ++ rest)
-      → ((fuel at n : ℕ) → first ≤ n → ahead a (here at n) ≡ replicate z 0 → Readable reports fuel n rest
+      → ((fuel at n : ℕ) → first ≤ n → part_at a (here at n) ≡ replicate z 0 → Readable reports fuel n rest
       → run fuel a used reports (here at n) ≡ whole rest)
       → run fuel a used reports (here at n) ≡ whole (numbers n es ++ rest)
   unfolding codes numbers run follow onto
@@ -73,13 +75,13 @@ module _ (a : List ℕ) (used reports tail end block first left : ℕ) (some : 0
   run_block (e ∷ es) rest z zero at n h q r k = absurd (omega (arith, r.enough))
   run_block (e ∷ es) rest z (suc fuel) at n h q r k =
       let s : List ℕ = codes es ++ replicate z 0 in
-      let q' : ahead a (here at n) ≡ coded e ++ s = q ∙ append_assoc (coded e) (codes es) (replicate z 0) in
+      let q' : part_at a (here at n) ≡ coded e ++ s = q ∙ append_assoc (coded e) (codes es) (replicate z 0) in
       let f : After n (record { number = n + e.gap; count = e.count }) = after_of r.rises in
-      let one : ahead a (moved a (here at n) (n + e.gap) (length (coded e))) ≡ s =
-      ahead-moved a (here at n) e s (n + e.gap) q' in
+      let one : part_at a (past (here at n) (n + e.gap) (length (coded e))) ≡ s =
+      behind_entry a (here at n) e s (n + e.gap) q' in
       let same : cond (eqb first 0) (n + e.gap) first ≡ first = rw (ne_eqb first 0 (λ z. omega arith)) in
       rw (
-        step_in a used reports (here at n) e s q' (omega (arith, f.above)) f.count_pos,
+        step_on a used reports (here at n) (unread a (here at n) (entry_found a used reports (here at n) n e s q' (omega arith) f)) some,
         reads_entry a used reports (here at n) n e s q' (omega arith) f (number_le r),
         same,
         run_block es rest z fuel (at + length (coded e)) (n + e.gap) (omega arith) (rw same at one) (readable-rest r) k,
@@ -156,7 +158,7 @@ module _ (a : List ℕ) (used reports : ℕ) (t : Held) (st : Standing a used t)
 
   -- the bytes ahead of a cursor at the start of the j-th block
   start-ahead : (j left n : ℕ) → j ≤ tail_at t
-      → ahead a (in_block t j 0 left (start_at (start_of t) j) n)
+      → part_at a (in_block t j 0 left (start_at (start_of t) j) n)
       ≡ codes_at t j ++ replicate (zeros (eqb j (tail_at t)) t j) 0
   unfolding part_end
   start-ahead j left n h = rw (tail_test j h) (part_is (eqb j (tail_at t)) j refl h)
@@ -165,7 +167,7 @@ module _ (a : List ℕ) (used reports : ℕ) (t : Held) (st : Standing a used t)
   from_start_lem : (j left n base fuel : ℕ) (rest : List Posting) → j ≤ tail_at t → base ≤ n
       → Readable reports (suc fuel) n (numbers base (entries (block_in (chain t) j)) ++ rest)
       → (0 < base + (block_in (chain t) j).opening.gap → (fuel at n : ℕ) → base + (block_in (chain t) j).opening.gap ≤ n
-      → ahead a (in_block t j (base + (block_in (chain t) j).opening.gap) left at n) ≡ replicate (zeros (eqb j (tail_at t)) t j) 0
+      → part_at a (in_block t j (base + (block_in (chain t) j).opening.gap) left at n) ≡ replicate (zeros (eqb j (tail_at t)) t j) 0
       → Readable reports fuel n rest → run fuel a used reports (in_block t j (base + (block_in (chain t) j).opening.gap) left at n) ≡ whole rest)
       → follow (run fuel a used reports) (read_at a reports (in_block t j 0 left (start_at (start_of t) j) n) base)
       ≡ whole (numbers base (entries (block_in (chain t) j)) ++ rest)
@@ -176,18 +178,18 @@ module _ (a : List ℕ) (used reports : ℕ) (t : Held) (st : Standing a used t)
       let es : List Entry = (block_in (chain t) j).others in
       let z : ℕ = zeros (eqb j (tail_at t)) t j in
       let s : List ℕ = codes es ++ replicate z 0 in
-      let q : ahead a c ≡ coded e ++ s = start-ahead j left n h ∙ append_assoc (coded e) (codes es) (replicate z 0) in
+      let q : part_at a c ≡ coded e ++ s = start-ahead j left n h ∙ append_assoc (coded e) (codes es) (replicate z 0) in
       let f : After n (record { number = base + e.gap; count = e.count }) = after_of r.rises in
       let pos : 0 < base + e.gap = omega (arith, f.above) in
       rw (
         reads_entry a used reports c base e s q k f (number_le r),
         run_block a used reports (tail_no t) (chain t).reach.offset (block_no t j) (base + e.gap) left pos es rest z fuel
-            (start_at (start_of t) j + length (coded e)) (base + e.gap) (omega arith) (ahead-moved a c e s (base + e.gap) q) (readable-rest r) (more pos),
+            (start_at (start_of t) j + length (coded e)) (base + e.gap) (omega arith) (behind_entry a c e s (base + e.gap) q) (readable-rest r) (more pos),
       )
 
   -- behind the entries of the j-th block stand the other blocks
   along : (ks : List Block) (j left first fuel at n : ℕ) → drop (suc j) (blocks (chain t)) ≡ ks → j ≤ tail_at t → length ks ≤ left → 0 < first → first ≤ n
-      → ahead a (in_block t j first left at n) ≡ replicate (zeros (eqb j (tail_at t)) t j) 0
+      → part_at a (in_block t j first left at n) ≡ replicate (zeros (eqb j (tail_at t)) t j) 0
       → Readable reports fuel n (restored first ks) → run fuel a used reports (in_block t j first left at n) ≡ whole (restored first ks)
   unfolding restored run follow entered
   along [] j left first zero at n d h m p le q r = absurd (omega (arith, r.enough))
@@ -252,9 +254,9 @@ module _ (a : List ℕ) (used reports : ℕ) (t : Held) (st : Standing a used t)
       let f : After 0 (record { number = 0 + k.opening.gap; count = k.opening.count }) = after_of (rw split at st.sound.rises) in
       let few : length ks ≤ used - 1 = omega (arith, behind (chain t) 0 refl, len, st.sound.few) in
       let z : ℕ = zeros (eqb 0 (tail_at t)) t 0 in
-      let q : ahead a c ≡ coded k.opening ++ (codes k.others ++ replicate z 0) =
+      let q : part_at a c ≡ coded k.opening ++ (codes k.others ++ replicate z 0) =
       start-ahead 0 (used - 1) 0 (omega arith) ∙ append_assoc (coded k.opening) (codes k.others) (replicate z 0) in
-      rw (step_in a used reports c k.opening _ q (omega (arith, f.above)) f.count_pos, split)
+      rw (step_first a used reports c refl, split)
       (from_start_lem 0 (used - 1) 0 0 reports (restored (0 + k.opening.gap) ks) (omega arith) (omega arith) (rw split at r)
       (λ p fuel at n le q r. along ks 0 (used - 1) (0 + k.opening.gap) fuel at n refl (omega arith) few p le q r))
 

@@ -1,60 +1,37 @@
 -- Steps of a cursor, by the bytes ahead of it in its block.
 -- Assumes nothing.
-use mathlib.Core.Path.{◌≡◌, refl, ap, ◌∙◌}
+use mathlib.Core.Path.{◌≡◌, refl, sym, ap, ◌∙◌}
 use mathlib.Core.Logic.{◌≢◌}
 use Prim.Native.Nat.{ℕ, zero, suc, ◌+◌, ◌-◌, ◌*◌, ◌≤◌, ◌<◌}
 use mathlib.Core.Bool.{Bool, true, false, cond, ◌||◌}
 use mathlib.Core.List.{List, ◌++◌}
 use native.Mathlib.Omega.{arith}
-use native.Mathlib.Nat.{add_assoc, add-zero}
+use native.Mathlib.Nat.{add-zero}
 use lib.Dec.{eqb, leb}
-use lib.ListN.{length, get_or, drop, replicate, length-append, length-take, length-drop}
-use lib.Seq.{get_or-take, get_or-drop, drop-drop, drop-append_seam}
-use borrow.Author.Tests.{eqb-true, eq-eqb, ne_eqb, lt-leb, le-leb, lt-ltb}
+use lib.ListN.{length, get_or, drop, replicate, length-take, length-drop}
+use lib.Seq.{get_or-take, get_or-drop, drop-append_seam}
+use borrow.Author.Tests.{eqb-true, eq-eqb, ne_eqb, lt-leb, le-leb}
 use Rattle.basics.proofs.Cases.{by-lt}
-use Rattle.basics.proofs.Parts.{drop-take}
-use Rattle.postings.proofs.Laws.{decode-code, code-head, length-code_pos}
+use Rattle.postings.proofs.Laws.{decode-code}
+use Rattle.postings.specs.Coding.{posting, decoded}
 use Rattle.blocks.specs.Fields.{block_size, place, link_of, part_of}
+use Rattle.blocks.proofs.Fields.{drop-part}
 use Rattle.chains.specs.declared.Cursor.{Cursor}
-use Rattle.chains.specs.Chains.{stepped, at_end, part_end, exhausted, given, read_at, entered, next_block, step_at}
+use Rattle.chains.specs.Chains.{stepped, at_end, part_end, part_at, exhausted, past, given, read_at, entered, next_block, step_at}
+use Rattle.chains.proofs.Steps.{given-at}
 use Rattle.layout.specs.Chains.{After, Entry, coded}
 
 -- ---- parts of blocks
-
--- the part from n bytes on
-part_next : (a : List ℕ) (b from n to : ℕ) → part_of a b (from + n) to ≡ drop n (part_of a b from to)
-unfolding part_of
-part_next a b from n to =
-    let e : to - (from + n) ≡ to - from - n = omega arith in
-    rw (drop-take, drop-drop, e, ← add_assoc (64 * b) from n)
 
 -- its first byte
 part_byte : (a : List ℕ) (b from to : ℕ) → from < to → get_or a (place b + from) 0 ≡ get_or (part_of a b from to) 0 0
 unfolding part_of
 part_byte a b from to h = rw (get_or-take (to - from) (drop (64 * b + from) a) 0 0 (omega arith), get_or-drop, add-zero)
 
-part_pos : (a : List ℕ) (b from to : ℕ) → 0 < length (part_of a b from to) → from < to
-unfolding part_of
-part_pos a b from to h = omega (arith, rw length-take at h)
-
 -- a part of no bytes is read to its end
 part_none : (a : List ℕ) (b from to : ℕ) → place b + block_size ≤ length a → to ≤ block_size → length (part_of a b from to) ≡ 0 → to ≤ from
 unfolding part_of
 part_none a b from to h k e = omega (arith, rw (length-take, length-drop) at e)
-
--- an entry at its front has not been read, in the tail (t) or elsewhere
-more_left : (t : Bool) (a : List ℕ) (b from end : ℕ) (e : Entry) (s : List ℕ) → 0 < e.gap → 0 < e.count
-    → part_of a b from (cond t end block_size) ≡ coded e ++ s → cond t (leb end from) (leb block_size from || eqb (get_or a (place b + from) 0) 0) ≡ false
-more_left t a b from end e s pg pf q =
-    let some : 0 < length (part_of a b from (cond t end block_size)) = rw (q, length-append) (omega (arith, length-code_pos e.gap e.count)) in
-    go t q (part_pos a b from (cond t end block_size) some)
-  where
-    go : (t : Bool) → part_of a b from (cond t end block_size) ≡ coded e ++ s → from < cond t end block_size
-        → cond t (leb end from) (leb block_size from || eqb (get_or a (place b + from) 0) 0) ≡ false
-    go true q h = lt-leb end from h
-    go false q h =
-        rw (lt-leb block_size from h, part_byte a b from block_size h, q)
-        (ne_eqb (get_or (coded e ++ s) 0 0) 0 (λ z. omega (arith, code-head e.gap e.count pg pf s)))
 
 -- null bytes are the end, in the tail none of them
 none_left : (t : Bool) (a : List ℕ) (b from end z : ℕ) → (t ≡ true → end ≤ from) → part_of a b from (cond t end block_size) ≡ replicate z 0
@@ -70,46 +47,25 @@ none_left false a b from end z h q =
 -- ---- a cursor
 
 module _ (a : List ℕ) where
-  -- the bytes from the cursor to the end of its block's part
-  abbrev pub ahead : Cursor → List ℕ
-  ahead c = part_of a c.block c.at (part_end c c.block)
-
-  -- the cursor behind an entry of so many bytes, whose number is n
-  abbrev pub moved : Cursor → ℕ → ℕ → Cursor
-  moved c n len = record {
-    tail = c.tail;
-    end = c.end;
-    block = c.block;
-    at = c.at + len;
-    number = n;
-    first = cond (eqb c.first 0) n c.first;
-    left = c.left;
-  }
-
-  pub ahead-moved : (c : Cursor) (e : Entry) (s : List ℕ) (n : ℕ) → ahead c ≡ coded e ++ s → ahead (moved c n (length (coded e))) ≡ s
+  -- behind an entry stands what stood behind it
+  pub behind_entry : (c : Cursor) (e : Entry) (s : List ℕ) (n : ℕ) → part_at a c ≡ coded e ++ s → part_at a (past c n (length (coded e))) ≡ s
   unfolding part_end
-  ahead-moved c e s n q = part_next a c.block c.at (length (coded e)) (part_end c c.block) ∙ rw (q, drop-append_seam)
+  behind_entry c e s n q = sym (drop-part a c.block c.at (length (coded e)) (part_end c c.block)) ∙ rw (q, drop-append_seam)
 
   module _ (used reports : ℕ) (c : Cursor) where
     -- an entry that is ahead is read
-    pub reads_entry : (base : ℕ) (e : Entry) (s : List ℕ) → ahead c ≡ coded e ++ s → base ≤ c.number
-        → After c.number (record { number = base + e.gap; count = e.count }) → base + e.gap ≤ reports
-        → read_at a reports c base ≡ stepped (base + e.gap) e.count (moved c (base + e.gap) (length (coded e)))
-    unfolding read_at given
-    reads_entry base e s q h f k =
-        rw (
-          q,
-          decode-code e.gap e.count (omega (arith, f.above)) (omega (arith, f.number_small)) f.count_pos f.count_small s,
-          lt-ltb c.number (base + e.gap) f.above,
-          le-leb (base + e.gap) reports k,
-        )
+    module _ (base : ℕ) (e : Entry) (s : List ℕ) (q : part_at a c ≡ coded e ++ s) (h : base ≤ c.number)
+        (f : After c.number (record { number = base + e.gap; count = e.count })) where
+      pub entry_found : decoded (part_at a c) ≡ posting e.gap e.count (length (coded e))
+      entry_found =
+          ap decoded q ∙ decode-code e.gap e.count (omega (arith, f.above)) (omega (arith, f.number_small)) f.count_pos f.count_small s
 
-    -- in the block itself, its number counts from the last
-    pub step_in : (e : Entry) (s : List ℕ) → ahead c ≡ coded e ++ s → 0 < e.gap → 0 < e.count → step_at a used reports c ≡ read_at a reports c c.number
-    unfolding step_at exhausted part_end
-    step_in e s q pg pf = rw (more_left (eqb c.block c.tail) a c.block c.at c.end e s pg pf q)
+      pub reads_entry : base + e.gap ≤ reports
+          → read_at a reports c base ≡ stepped (base + e.gap) e.count (past c (base + e.gap) (length (coded e)))
+      unfolding read_at
+      reads_entry k = ap (given reports c base) entry_found ∙ given-at reports c base e.gap e.count (length (coded e)) f.above k
 
-    module _ (some : 0 < c.first) (z : ℕ) (q : ahead c ≡ replicate z 0) where
+    module _ (some : 0 < c.first) (z : ℕ) (q : part_at a c ≡ replicate z 0) where
       -- behind a block's last entry, the next block
       pub step_next : (b : ℕ) → c.block ≢ c.tail → link_of a c.block ≡ b → b < used → 0 < c.left
           → step_at a used reports c ≡ read_at a reports (entered c b) c.first

@@ -1,7 +1,7 @@
 -- Laws of a posting's code: decoding undoes coding, and coding undoes decoding.
 -- Assumes nothing.
 use mathlib.Core.Path.{◌≡◌, refl, sym, ap, ◌∙◌}
-use mathlib.Core.List.{List, ◌∷◌, ◌++◌, append_assoc}
+use mathlib.Core.List.{List, [], ◌∷◌, ◌++◌, append_assoc}
 use mathlib.Core.Logic.{◌⊎◌, inl, inr}
 use Prim.Native.Nat.{ℕ, suc, ◌+◌, ◌-◌, ◌*◌, ◌/◌, ◌%◌, ◌≤◌, ◌<◌}
 use native.Mathlib.Omega.{arith}
@@ -70,6 +70,12 @@ decoded_high s v l e h = rw e (first_high s v l h)
 pub second-number : (g l w m : ℕ) → second g l (valued w m) ≡ posting g (w + 3) (l + m)
 unfolding second
 second-number g l w m = refl
+
+-- of no bytes nothing is decoded
+pub decoded_none : (s : List ℕ) → length s ≡ 0 → decoded s ≡ None
+unfolding decoded first at_most value
+decoded_none [] e = refl
+decoded_none (b ∷ s) e = absurd (omega arith)
 
 -- ---- the short codes
 

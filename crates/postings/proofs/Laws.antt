@@ -5,12 +5,25 @@ use mathlib.Core.List.{List, [], ◌∷◌, ◌++◌}
 use Prim.Native.Nat.{ℕ, ◌+◌, ◌-◌, ◌*◌, ◌%◌, ◌^◌, ◌≤◌, ◌<◌}
 use native.Mathlib.Omega.{arith}
 use lib.ListN.{length, drop, get_or, length-append}
-use Rattle.std.specs.Prelude.{None}
-use Rattle.postings.specs.Coding.{vbyte, code, max_code, posting, value, at_most, first, decoded}
+use borrow.Author.Tests.{lt-leb, le-leb}
+use Rattle.std.specs.Prelude.{Some, None}
+use Rattle.postings.specs.Coding.{counted, vbyte, code, max_code, posting, value, at_most, first, decoded}
 use Rattle.basics.proofs.Cases.{by-lt}
 use Rattle.postings.proofs.Values.{by_bytes, last, more, length_pos, length_le}
 use Rattle.postings.proofs.Codes.{code_low, code_high, length_high}
 pub use Rattle.postings.proofs.Codes.{Held, decode-code, decoded_held, code_decode}
+
+-- ---- numbers
+
+-- a number that was counted, and where none was
+module _ (reports earlier g : ℕ) where
+  pub counted_is : {n : ℕ} → counted reports earlier g ≡ Some n → (n ≡ earlier + g) × (n ≤ reports)
+  counted_is {n} e =
+      by-lt reports (earlier + g) (λ h. cc (rw (lt-leb (earlier + g) reports h) at e))
+      (λ h. let q : n ≡ earlier + g = cc (rw (le-leb (earlier + g) reports h) at e) in omega arith)
+
+  pub counted_over : counted reports earlier g ≡ None → reports < earlier + g
+  counted_over e = by-lt reports (earlier + g) (λ h. h) (λ h. cc (rw (le-leb (earlier + g) reports h) at e))
 
 -- ---- the length
 

@@ -23,6 +23,10 @@ max_first = max_gap * threshold
 abbrev pub max_second : ℕ
 max_second = max_count - 3
 
+-- the number that a gap leads to from an earlier one, where it is at most `reports`
+abbrev pub counted : ℕ → ℕ → ℕ → Option ℕ
+counted reports earlier g = cond (leb (earlier + g) reports) (Some (earlier + g)) None
+
 -- ---- coding
 
 -- a value, seven bits at a time, lowest first; a byte that another follows has 128 added. At most `fuel` bytes follow

@@ -12,32 +12,65 @@
 
 ghost use Rattle.std.specs.Prelude.{◌≡◌, ℕ, IfSome, ◌+◌, ◌-◌, ◌≤◌, ◌<◌, ◌^◌, length, drop};
 ghost use Rattle.std.proofs.lemmas.List.Edits.{sets};
-ghost use Rattle.postings.specs.Coding.{vbyte, code, code_length, value, at_most, decoded};
+ghost use Rattle.postings.specs.Coding.{max_gap, counted, vbyte, code, code_length, value, at_most, decoded};
 ghost use Rattle.postings.specs.Claims.{RoundTrips, Shares, NotConstant};
 
-// The distance of a report from an earlier one, which is what a posting stores. The type says which the earlier one
-// is, so that a gap that counts from one report is not stored where another is meant.
+// How far a report is from the last one in the chain. A d-gap and a b-gap are two sorts of distance, so that one that
+// counts from one report is not stored or read where the other is meant.
 #[derive(Clone, Copy)]
-pub struct Gap<const BLOCK: bool>(pub u32);
+pub struct DGap(pub u32);
 
-// From the last report in the chain.
-pub type DGap = Gap<false>;
+// How far a block's first report is from the first report of the block before.
+#[derive(Clone, Copy)]
+pub struct BGap(pub u32);
 
-// From the first report of the block before: the gap of a block's first report.
-pub type BGap = Gap<true>;
+// The number that lies so many steps behind an earlier one, where it is not over reports.
+fn counted(reports: u32, earlier: u32, steps: u32) -> Option<u32>
+    ensures { result ≡ counted reports earlier steps }
+{
+    if reports < earlier || reports - earlier < steps {
+        return None;
+    }
+    Some(earlier + steps)
+}
 
-impl<const BLOCK: bool> Gap<BLOCK> {
-    pub fn between(earlier: u32, number: u32) -> Self
-        requires { earlier < number }
-        ensures { result.0 ≡ number - earlier }
+impl DGap {
+    pub fn between(last: u32, number: u32) -> Self
+        requires { last < number }
+        ensures { result.0 ≡ number - last }
     {
-        Gap(number - earlier)
+        DGap(number - last)
     }
 
-    pub fn steps(self) -> u32
-        ensures { result ≡ self.entry.0 }
+    // The report that stands so far behind the last one.
+    pub fn from_last(self, last: u32, reports: u32) -> Option<u32>
+        ensures { result ≡ counted reports last self.0 }
     {
-        self.0
+        counted(reports, last, self.0)
+    }
+
+    // The same where it is known not to be over reports, as in a chain that was read whole.
+    pub fn behind(self, last: u32) -> u32
+        requires { last + self.0 ≤ max_gap }
+        ensures { result ≡ last + self.0 }
+    {
+        last + self.0
+    }
+}
+
+impl BGap {
+    pub fn between(first: u32, number: u32) -> Self
+        requires { first < number }
+        ensures { result.0 ≡ number - first }
+    {
+        BGap(number - first)
+    }
+
+    // The report that stands so far behind the first one of the block before.
+    pub fn from_first(self, first: u32, reports: u32) -> Option<u32>
+        ensures { result ≡ counted reports first self.0 }
+    {
+        counted(reports, first, self.0)
     }
 }
 
@@ -57,6 +90,23 @@ pub struct Decoded {
     pub gap: u32,
     pub count: u32,
     pub length: usize,
+}
+
+// Which sort its gap is of depends on where it stands.
+impl Decoded {
+    // Behind another posting of its block.
+    pub fn d_gap(self) -> DGap
+        ensures { result.0 ≡ self.gap }
+    {
+        DGap(self.gap)
+    }
+
+    // At the block's start.
+    pub fn b_gap(self) -> BGap
+        ensures { result.0 ≡ self.gap }
+    {
+        BGap(self.gap)
+    }
 }
 
 // How many bytes code a value, by its length in bits.
@@ -163,7 +213,9 @@ const MAX_FIRST: u64 = 4 * (u32::MAX as u64);
 
 const MAX_SECOND: u64 = (u32::MAX as u64) - 3;
 
-// The posting at the front of s, of any length.
+// The posting at the front of s, of any length. It is a call of its own, so that decode_at stays short enough to be taken
+// into the loops that call it.
+#[inline(never)]
 #[tactic(auto, unfolding(crate::specs::Coding::decoded, crate::specs::Coding::first, crate::specs::Coding::second))]
 fn decode_long(s: &[u8]) -> Option<Decoded>
     ensures { result ≡ decoded s.now }
@@ -228,15 +280,15 @@ pub fn decode_at(s: &[u8], at: usize) -> Option<Decoded>
     decode_long(&s[at..])
 }
 
-// The posting at the front of s. Long codes have two callers, so that the compiler does not take their reading into
-// decode_at, which would then be too long to be taken into the loops that call it.
+// The posting at the front of s.
+#[tactic(auto, using(crate::proofs::Codes::decoded_none))]
 pub fn decode(s: &[u8]) -> Option<Decoded>
     ensures { result ≡ decoded s.now }
 {
-    if !s.is_empty() {
-        return decode_at(s, 0);
+    if s.is_empty() {
+        return None;
     }
-    decode_long(s)
+    decode_at(s, 0)
 }
 
 // Decoding undoes coding and coding undoes decoding; counts below 4 share a value; no constant code has a decoder. A

@@ -5,6 +5,7 @@ use mathlib.Core.Path.{◌≡◌, refl, sym, ap, ◌∙◌}
 use mathlib.Core.Bool.{Bool, true, false, ◌||◌}
 use mathlib.Core.List.{List, [], ◌∷◌}
 use native.Mathlib.Omega.{arith}
+use native.Mathlib.Nat.{add-zero}
 use Rattle.std.specs.Prelude.{Option, Some, None, Ok, Err}
 use Rattle.refusals.specs.declared.Refusal.{Refusal}
 use lib.Dec.{eqb}
@@ -13,17 +14,17 @@ use lib.Seq.{get_or-set_same, get_or-set_other}
 use Rattle.basics.proofs.Cases.{by-lt, by-eq}
 use borrow.Author.Tests.{ne_eqb}
 use Rattle.basics.specs.Lists.{any}
-use Rattle.blocks.specs.Fields.{head_of, capacity, part_of}
+use Rattle.blocks.specs.Fields.{head_of, capacity}
+use Rattle.blocks.proofs.Fields.{drop-part}
 use Rattle.blocks.specs.Prescribed.{Posting}
 use Rattle.chains.specs.declared.Cursor.{Cursor}
 use Rattle.chains.specs.declared.Step.{Step}
-use Rattle.chains.specs.Chains.{Stepped, stepped, at_end, damaged, follow, part_end, whole, exhausted, read_at, next_block, step_at, at_head, chain_of}
+use Rattle.chains.specs.Chains.{Stepped, stepped, at_end, damaged, follow, part_end, part_at, whole, exhausted, read_at, next_block, step_at, at_head, chain_of}
 use Rattle.postings.specs.Coding.{posting, decoded}
-use Rattle.sums.specs.Adding.{Bounded}
 use Rattle.sums.proofs.Adding.{bounded_by}
-use Rattle.chains.specs.Parts.{moved_to, passed_to, InPart}
-use Rattle.chains.proofs.Steps.{part_end_le, step_next, step_here, same_step}
-use Rattle.chains.proofs.Parts.{Within, here, on, part_drop, part_all, part_more, part_posting, part_over, step_part, within-number, passed_to_lem, part_end-moved}
+use Rattle.chains.specs.Parts.{moved_to, passed_to, Known}
+use Rattle.chains.proofs.Steps.{step_next, step_on, same_step}
+use Rattle.chains.proofs.Parts.{Within, here, on, part_over, part_step, step_part, within-number, passed_to_lem}
 use Rattle.chains.proofs.Skipping.{read-moved, next_earlier, read_more, next_more}
 use Rattle.chains.proofs.Laws.{step_follows, rest, whole-posting, whole_end, run_step, head-follows, head-rest, is-whole, chain-whole, whole_is}
 use Rattle.counters.specs.declared.Counters.{Counters}
@@ -177,47 +178,34 @@ module _ {a : List ℕ} {k : Counters} {c₀ : Cursor} {number : ℕ} {c : Curso
 -- several postings of a part
 passing-within : {a : List ℕ} {k : Counters} {c₀ : Cursor} {number : ℕ} {c c' : Cursor} {j : ℕ} → Passing a k c₀ number c → Within a k.reports number c j c' → Passing a k c₀ number c'
 passing-within p here = p
-passing-within {a} {k} p (on w l e r) = passing-on (passing-within p w) l (step_here a k.used k.reports _ e ∙ r)
+passing-within {k = k} p (on w l e) = passing-on (passing-within p w) l (e k.used)
 
 -- what is passed of the block's part
 pub passing_part : {a : List ℕ} {k : Counters} {c₀ c : Cursor} {number : ℕ} → Passing a k c₀ number c → 0 < c.first → Passing a k c₀ number (passed_to a k.reports c number)
-passing_part {number = number} p h = passing-within p (passed_to_lem (p.stands.in_part h) number).1
+passing_part {number = number} p h = passing-within p (passed_to_lem (p.stands.in_part h) number).2
 
 pub part_forward : {a : List ℕ} {k : Counters} {c : Cursor} (number : ℕ) → Stands a k c → 0 < c.first → c.number ≤ (passed_to a k.reports c number).number
-part_forward number s h = within-number (passed_to_lem (s.in_part h) number).1
+part_forward number s h = within-number (passed_to_lem (s.in_part h) number).2
 
 -- ---- no number of a sound chain's part is over reports
 
 module _ {a : List ℕ} {k : Counters} where
-  -- a posting that is decoded there is the cursor's next
-  module _ {c : Cursor} (s : Stands a k c) (w : InPart a k.reports c) {g f l : ℕ}
-      (h : c.at < part_end c c.block) (e : decoded (part_of a c.block c.at (part_end c c.block)) ≡ posting g f l) where
-    abbrev next : Cursor
-    next = moved_to c (c.at + l) (c.number + g)
-
-    here_is : step_at a k.used k.reports c ≡ read_at a k.reports c c.number
-    here_is = step_here a k.used k.reports c (part_more w c.at c.number h e)
-
-    part_bound : c.number + g ≤ k.reports
-    part_bound =
-        by-lt k.reports (c.number + g)
-        (λ u. absurd (stands_undamaged s _ (here_is ∙ part_over a k.reports c c.at c.number e u)))
-        (λ u. u)
-
-    part_stands : Stands a k next
-    part_stands = stands_on s (here_is ∙ part_posting w c.at c.number h e part_bound)
-
-  pub stands_bounded : {c : Cursor} → Stands a k c → 0 < c.first → Bounded (part_of a c.block 0 (part_end c c.block)) k.reports c.at c.number
-  stands_bounded {c} s b =
-      let p = c.block in
+  -- a posting that stands at the cursor is its next
+  next_stands : {c : Cursor} {at g f l : ℕ} → Stands a k c → 0 < c.first → decoded (part_at a c) ≡ posting g f l → at ≡ c.at + l → Stands a k (moved_to c at (c.number + g))
+  next_stands {c} {at} {g} s b e p =
       let w = s.in_part b in
-      let z = part_all a p (part_end c p) (omega (arith, w.inside, part_end_le c p w.end_in)) in
-      bounded_by (part_of a p 0 (part_end c p)) k.reports (λ at n. Stands a k (moved_to c at n))
+      by-lt k.reports (c.number + g)
+      (λ u. absurd (stands_undamaged s _ (part_over w e k.used u)))
+      (λ u. stands_on s (part_step w e p refl u k.used))
+
+  pub stands_bounded : {c : Cursor} → Stands a k c → 0 < c.first → Known a k.reports c
+  unfolding part_end
+  stands_bounded {c} s b =
+      bounded_by (part_at a c) k.reports (λ at n. Stands a k (moved_to c (c.at + at) n))
       (λ at n t. t.within)
       (λ at n g f l t h e.
-      let same = part_end-moved c at n p in
-      part_stands t (t.in_part b) {f = f} (rw same (omega (arith, h, z))) (rw same (sym (ap decoded (part_drop a p (part_end c p) at)) ∙ e)))
-      s
+      next_stands t b (ap decoded (sym (drop-part a c.block c.at at (part_end c c.block))) ∙ e) (omega arith))
+      (rw add-zero s)
 
 -- ---- the next block
 
@@ -278,11 +266,11 @@ module _ {a : List ℕ} {k : Counters} where
       on-from q ih (Ok (Some x)) r =
           let m = x.number in
           let v = read-moved a k.reports c m x.count x.next h r in
-          let e : step_at a k.used k.reports c ≡ stepped m x.count (moved_to c v.0 m) = step_here a k.used k.reports c q ∙ r ∙ ap (stepped m x.count) v.1 in
+          let e : step_at a k.used k.reports c ≡ stepped m x.count (moved_to c v.0 m) = step_on a k.used k.reports c q h ∙ r ∙ ap (stepped m x.count) v.1 in
           let u = step_follows a k.used k.reports c e in
           begun-before s e (ih (moved_to c v.0 m) (omega (arith, u.ascends, u.within)) (stands_on s e) h t)
       on-from q ih (Ok None) r = absurd (read_more a k.reports c c.number r)
-      on-from q ih (Err z) r = absurd (stands_undamaged s z (step_here a k.used k.reports c q ∙ r))
+      on-from q ih (Err z) r = absurd (stands_undamaged s z (step_on a k.used k.reports c q h ∙ r))
 
       go : (x : Bool) → exhausted a c ≡ x
           → ((d : Cursor) → k.reports - d.number < fuel → Stands a k d → 0 < d.first → (d.block ≡ d.tail → ⊥) → Begun a k d) → Begun a k c

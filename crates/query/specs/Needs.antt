@@ -7,11 +7,12 @@ use Rattle.refusals.specs.declared.Refusal.TheVariants.{Damaged}
 use Rattle.refusals.specs.Numbers.{number_of}
 use Rattle.frames.specs.Frames.{query_refusal, query_start, query_terms}
 use Rattle.counters.specs.Counters.{Memory}
+use Rattle.postings.specs.Coding.{decoded}
 use Rattle.blocks.specs.Fields.{link_size, head_of, capacity}
 use Rattle.blocks.specs.Prescribed.{Posting}
 use Rattle.chains.specs.declared.Cursor.{Cursor}
-use Rattle.chains.specs.Parts.{InPart}
-use Rattle.chains.specs.Chains.{Reading, part_end, exhausted, stepped, damage, read_at, next_block, run, at_head, is_whole, chain_of, Follows}
+use Rattle.chains.specs.Parts.{StepsIn, InPart}
+use Rattle.chains.specs.Chains.{Reading, part_at, stepped, next_block, run, at_head, is_whole, chain_of, Follows}
 use Rattle.lookup.specs.declared.Found.{Found}
 use Rattle.lookup.specs.declared.Found.TheVariants.{At, Unknown}
 use Rattle.counters.specs.declared.Counters.{Counters}
@@ -55,17 +56,16 @@ filled_as r numbers counts = record { answer = r; numbers = numbers; counts = co
 pub data Fills (a : List ℕ) (reports start : ℕ) (c₀ : Cursor) (numbers₀ counts₀ : List ℕ) (n₀ : ℕ) : Cursor → List ℕ → List ℕ → ℕ → Type 0 where
   none : Fills a reports start c₀ numbers₀ counts₀ n₀ c₀ numbers₀ counts₀ n₀
   over : {c c' : Cursor} {numbers counts : List ℕ} {n m f : ℕ} → Fills a reports start c₀ numbers₀ counts₀ n₀ c numbers counts n
-      → exhausted a c ≡ false → read_at a reports c c.number ≡ stepped m f c' → m < start
+      → StepsIn a reports c m f c' → m < start
       → Fills a reports start c₀ numbers₀ counts₀ n₀ c' numbers counts n
   stored : {c c' : Cursor} {numbers counts : List ℕ} {n m f : ℕ} → Fills a reports start c₀ numbers₀ counts₀ n₀ c numbers counts n
-      → exhausted a c ≡ false → read_at a reports c c.number ≡ stepped m f c' → start ≤ m → n < length numbers → n < length counts
+      → StepsIn a reports c m f c' → start ≤ m → n < length numbers → n < length counts
       → Fills a reports start c₀ numbers₀ counts₀ n₀ c' (set numbers n m) (set counts n f) (n + 1)
 
--- and they are filled as far as they can be: where both have room and the part is not at its end, no posting can be
--- read
+-- and they are filled as far as they can be: where both have room, no posting stands at the cursor
 pub record FillsOut (a : List ℕ) (reports start : ℕ) (c₀ : Cursor) (numbers₀ counts₀ : List ℕ) (n₀ : ℕ) (c : Cursor) (numbers counts : List ℕ) (n : ℕ) : Type 0 where
   pub fills : Fills a reports start c₀ numbers₀ counts₀ n₀ c numbers counts n
-  pub stops : n < length numbers → n < length counts → c.at < part_end c c.block → read_at a reports c c.number ≡ damage
+  pub stops : n < length numbers → n < length counts → decoded (part_at a c) ≡ None
 
 -- ---- all terms
 

@@ -1,17 +1,20 @@
 //! Measures the proved library, plain Rust and SQLite FTS5 side by side and writes tables.
 //!
-//! Use: `bench [REPORTS..]`, by default 20,000 and 200,000 reports. docs/BENCHMARKS.md says what is
-//! measured and holds the figures of one run.
+//! Use: `bench [--plot FILE] [REPORTS..]`, by default 20,000 and 200,000 reports; with `--plot` the
+//! figures are drawn into a file too. docs/BENCHMARKS.md says what is measured and holds the figures
+//! of one run.
 
+use std::fs;
 use std::process::ExitCode;
 
 use bench::fts::{Fts, Texts};
 use bench::links::Chains;
 use bench::memory::{Lists, Memory};
 use bench::plain::PLAIN;
+use bench::plot::{svg, Bars, Group};
 use bench::rounds::Times;
 use bench::workload::{Queries, Workload};
-use report_index::calls::{Calls, LIBRARY};
+use differential::calls::{Calls, LIBRARY};
 use report_index::BLOCK_BYTES;
 
 /// The two that take turns.
@@ -33,22 +36,38 @@ const QUERY_ROUND: f64 = 5e6;
 
 fn main() -> ExitCode {
     let words: Vec<String> = std::env::args().skip(1).collect();
-    let sizes: Result<Vec<usize>, _> = words.iter().map(|word| word.parse()).collect();
-    match sizes {
-        Ok(sizes) if sizes.is_empty() => [20_000, 200_000].into_iter().for_each(measure),
-        Ok(sizes) if sizes.iter().all(|size| *size >= 1_000) => {
-            sizes.into_iter().for_each(measure);
-        }
-        _ => {
-            eprintln!("Use: bench [REPORTS..]    (numbers of 1,000 or more)");
-            return ExitCode::from(2);
+    let (plot, sizes) = match words.as_slice() {
+        [option, file, sizes @ ..] if option == "--plot" => (Some(file), sizes),
+        sizes => (None, sizes),
+    };
+    let Some(sizes) = numbers_of_reports(sizes) else {
+        eprintln!("Use: bench [--plot FILE] [REPORTS..]    (numbers of 1,000 or more)");
+        return ExitCode::from(2);
+    };
+    let groups: Vec<Group> = sizes.into_iter().map(measure).collect();
+    if let Some(file) = plot {
+        if let Err(error) = fs::write(file, svg(&groups)) {
+            eprintln!("{file} was not written: {error}");
+            return ExitCode::FAILURE;
         }
     }
     ExitCode::SUCCESS
 }
 
-/// Measures all with this many reports.
-fn measure(reports: usize) {
+/// The numbers of reports to measure with; none where a word is no such number.
+fn numbers_of_reports(words: &[String]) -> Option<Vec<usize>> {
+    if words.is_empty() {
+        return Some(vec![20_000, 200_000]);
+    }
+    let numbers = words.iter().map(|word| word.parse().ok());
+    numbers
+        .map(|number| number.filter(|number| *number >= 1_000))
+        .collect()
+}
+
+/// Measures all with this many reports; gives what is drawn.
+fn measure(reports: usize) -> Group {
+    let mut rows = Vec::new();
     let workload = Workload::new(reports);
     let blocks = workload.postings / 8 + 60_000;
     let mut memory = Memory::new(blocks, SLOTS);
@@ -58,11 +77,13 @@ fn measure(reports: usize) {
     println!("|---|---|---|---|---|---|---|");
     let rounds = measure_ingest(&workload, &mut memory, &mut fts);
     print_row("a posting taken", NANOSECONDS, &rounds);
+    rows.push(rounds.bars("a posting taken"));
     let mut links = Vec::new();
     for queries in workload.queries() {
         let (rounds, found) = measure_queries(&workload, &queries, &memory, Some(&mut fts));
         let name = format!("{}; {} found", queries.name, found / queries.places.len());
         print_row(&name, MICROSECONDS, &rounds);
+        rows.push(rounds.bars(queries.name));
         if !queries.are_of_one_term() {
             links.push(links_row(&workload, &queries, &memory, &rounds));
         }
@@ -74,6 +95,7 @@ fn measure(reports: usize) {
     }
     print_links(&links);
     print_sizes(&workload, &memory);
+    Group { reports, rows }
 }
 
 /// The rounds behind one row of the table: those of the library and of plain Rust, and of how many
@@ -90,6 +112,17 @@ impl Rounds {
     /// The nanoseconds of FTS5's best round, for one part.
     fn fts(&self) -> Option<f64> {
         (!self.fts.is_empty()).then(|| self.fts.best(self.fts_parts))
+    }
+
+    /// The best rounds, for one part, to be drawn.
+    fn bars(&self, what: &str) -> Bars {
+        let [library, plain] = &self.sides;
+        Bars {
+            what: what.to_owned(),
+            library: library.best(self.parts),
+            plain: plain.best(self.parts),
+            fts: self.fts(),
+        }
     }
 }
 

@@ -3,7 +3,7 @@
 
 use std::ops::Range;
 
-use report_index::calls::Calls;
+use differential::calls::Calls;
 use report_index::{Counters, BLOCK_BYTES};
 
 /// Arena, table and counters.

@@ -5,7 +5,7 @@
 //! comments here only say what is done for speed. (`rust/reference` states the same rules in their
 //! most direct form and is far slower.)
 
-use report_index::calls::Calls;
+use differential::calls::Calls;
 use report_index::raw::{Counters, ListAnswer, ReportAnswer};
 use report_index::BLOCK_BYTES;
 

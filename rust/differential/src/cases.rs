@@ -4,10 +4,10 @@
 
 use std::fmt;
 
+use crate::calls::Calls;
 use reference::drawn_calls::{DrawnCall, Source};
 use reference::draws::Draws;
 use reference::ledger::Ledger;
-use report_index::calls::Calls;
 
 use crate::memory::Memory;
 use crate::sides::{bring_to_ledger, bring_to_reference, Outcome, Tested};

@@ -5,6 +5,7 @@
 //!
 //! | module | what |
 //! |---|---|
+//! | [`calls`] | the four calls as values, so that an implementation can be chosen |
 //! | [`cases`] | one case for each seed: memory, a list of calls, damage between them |
 //! | [`memory`] | arena, table and counters of an index, and damage done to them |
 //! | [`sides`] | bringing one call to the implementation under test (the proved library, or another), to the reference or to the ledger |
@@ -14,6 +15,7 @@
 #![forbid(unsafe_code)]
 #![warn(missing_docs)]
 
+pub mod calls;
 pub mod cases;
 pub mod guarded;
 pub mod memory;

@@ -7,8 +7,8 @@
 use std::process::ExitCode;
 use std::time::{Instant, SystemTime, UNIX_EPOCH};
 
+use differential::calls::LIBRARY;
 use differential::cases;
-use report_index::calls::LIBRARY;
 
 fn main() -> ExitCode {
     let words: Vec<String> = std::env::args().skip(1).collect();

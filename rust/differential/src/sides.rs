@@ -1,9 +1,9 @@
 //! Bringing one call to the implementation under test, to the reference or to the plain ledger.
 
+use crate::calls::Calls;
 use reference::drawn_calls::DrawnCall;
 use reference::index;
 use reference::ledger::Ledger;
-use report_index::calls::Calls;
 use report_index::raw;
 
 use crate::guarded::Guarded;

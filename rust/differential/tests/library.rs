@@ -2,8 +2,8 @@
 //!
 //! The program `differential` runs as many other seeds as one likes.
 
+use differential::calls::LIBRARY;
 use differential::cases::{run, Kind};
-use report_index::calls::LIBRARY;
 
 /// The proved library and the reference: every answer and all memory, also on damaged memory. Each
 /// refusal must be met for each call that can give it.

@@ -8,8 +8,8 @@
 //! | [`start`], [`report`], [`list_one`], [`list_all`] | the four calls, over lent memory |
 //! | [`Refusal`] | why a call is refused, with document 01's number |
 //! | [`Index`] | the same calls over memory of its own |
+//! | [`mod@frame`] | making the frame of a report or of a query; the limits of a frame |
 //! | [`raw`] | the calls with the library's own answers; all `unsafe` stands there |
-//! | [`calls`] | the four calls as values, to choose an implementation |
 //!
 //! A frame is what document 01 calls a report or a query in bytes: the version 1, the length of the
 //! body in two bytes, the kind, and the fields of that kind. Numbers have four bytes, highest first.
@@ -44,7 +44,7 @@
 #![deny(unsafe_code)]
 #![warn(missing_docs)]
 
-pub mod calls;
+pub mod frame;
 mod index;
 #[allow(unsafe_code)]
 pub mod raw;
@@ -127,5 +127,18 @@ fn check(number: u8) -> Result<(), Refusal> {
     if number == 0 {
         return Ok(());
     }
-    Err(Refusal::of_number(number).expect("the library gives no refusal but 1 to 13"))
+    Err(Refusal::of_number(number).unwrap_or(Refusal::Unknown(number)))
+}
+
+#[cfg(test)]
+mod tests {
+    use super::*;
+
+    #[test]
+    fn an_unknown_number_is_a_refusal_too() {
+        assert_eq!(check(0), Ok(()));
+        assert_eq!(check(13), Err(Refusal::Writing));
+        assert_eq!(check(14), Err(Refusal::Unknown(14)));
+        assert_eq!(check(255), Err(Refusal::Unknown(255)));
+    }
 }

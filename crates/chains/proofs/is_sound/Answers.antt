@@ -37,6 +37,9 @@ read : (c : Else-r-c)
     → Read c.args.used.arena.now c.args.used.blocks c.args.reports c.args.h c.head_of-d.result (after c.loop-r.c c.in-Some.r) (c.loop-r.n + (1 + c.in-Some.r.rest.postings))
 read c = block_read c.loop-r.invariant.entering (sym c.in-Some.is ∙ c.read_part.ensures) c.if-r-c.false
 
+pub overflow_add-c : goal.overflow_add-c
+overflow_add-c c = let w = read (goal.at.overflow_add-c c).Else-r-c in omega (arith, w.within)
+
 pub overflow_add-n : goal.overflow_add-n
 overflow_add-n c = let w = (read (goal.at.overflow_add-n c).Else-r-c).counted in omega (arith, w.few, w.within)
 

@@ -1,6 +1,6 @@
 //! The four calls as values, so that an implementation can be chosen: by a comparison or a benchmark.
 
-use crate::raw::{self, Counters, ListAnswer, ReportAnswer};
+use report_index::raw::{self, Counters, ListAnswer, ReportAnswer};
 
 /// A start, of table and counters.
 pub type Start = fn(&mut [u32], &mut Counters);
