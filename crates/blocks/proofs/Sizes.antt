@@ -29,8 +29,11 @@ pub block_byte : block_size < 256
 block_byte = omega (arith, block_is)
 
 -- a head's fixed bytes begin with a link
-pub link_head : (0 < link_size) × (link_size ≤ head_fixed)
-link_head = (omega (arith, link_is), omega (arith, link_is, fixed_is))
+pub link_pos : 0 < link_size
+link_pos = omega (arith, link_is)
+
+pub link_head : link_size ≤ head_fixed
+link_head = omega (arith, link_is, fixed_is)
 
 -- a link and any posting fit, and so do a head's fixed bytes, any term and any posting
 pub link_room : link_size + max_code ≤ block_size
@@ -38,3 +41,6 @@ link_room = omega (arith, block_is, link_is)
 
 pub head_room : head_fixed + max_term + max_code ≤ block_size
 head_room = omega (arith, block_is, fixed_is)
+
+-- what the crates above know of the sizes
+pub ruleset bounds = (block_unit, block_byte, link_pos, link_head, link_room, head_room)

@@ -243,8 +243,7 @@ pub fn fits_in(d: Head, number: u32, count: u32) -> bool
     ensures { result ≡ fits d number count }
 {
     let gap = DGap::between(d.last, number);
-    d.end + postings::MAX_CODE <= BLOCK
-        || d.end + postings::posting_length(gap.0, count) <= BLOCK
+    d.end + postings::MAX_CODE <= BLOCK || d.end + postings::posting_length(gap.0, count) <= BLOCK
 }
 
 // A posting at the write offset of the tail. The tail stays, so that field of the head is not written again.

@@ -18,6 +18,7 @@ use Rattle.blocks.proofs.Fields.{part_own, part_other}
 use Rattle.chains.specs.declared.Cursor.{Cursor}
 use Rattle.chains.specs.Chains.{Stepped as Outcome, stepped, at_end, damage, exhausted, entered, next_block, step_at, Reading, damaged, whole, onto, follow, run, at_head, bad_head, last_from, agreeing, chain_of, is_whole, Follows}
 use Rattle.chains.proofs.Steps.{Gave, read_gave, next-none, next_out, next-at, step_empty, step_end, step_next, step_here}
+use Rattle.blocks.proofs.Sizes.{bounds}
 
 -- ---- one step
 
@@ -183,7 +184,7 @@ head_good d used h e =
     }
 
 part_start_ge : (d : Head) (h b : ℕ) → link_size ≤ part_start d h b
-part_start_ge d h b = by-eq b h (λ e. rw (part_own d h b e) (omega arith)) (λ n. rw (part_other d h b n) (omega arith))
+part_start_ge d h b = by-eq b h (λ e. rw (part_own d h b e) (omega (arith, bounds))) (λ n. rw (part_other d h b n) (omega (arith, bounds)))
 
 -- the cursor before the first posting of a sound head can be followed
 pub head-follows : (a : List ℕ) (used h : ℕ) (d : Head) → place used ≤ length a → h < used → bad_head d used h ≡ false

@@ -26,6 +26,7 @@ use Rattle.chains.specs.Parts.{Passed, passed, moved_to, passed_to, StepsIn, InP
 use Rattle.chains.proofs.Steps.{part_end_le, part_end_ge, not-exhausted, part_within, decoded_past, given-none, given-over, given-at, given_is, read_gave, next-none, next_out, next-at, step_empty, step_end, step_next, step_here, step_on}
 use Rattle.chains.proofs.Laws.{step_follows}
 use Rattle.chains.proofs.Passing.{Goes, Stopped, at_end, arrived, no_posting, over, pass-keeps}
+use Rattle.blocks.proofs.Sizes.{bounds}
 
 -- nothing is decoded at a null byte
 part_null : (a : List ℕ) (b at to : ℕ) → get_or a (place b + at) 0 ≡ 0 → decoded (part_of a b at to) ≡ None
@@ -143,7 +144,7 @@ read_in_part a used reports c base n f c' w h e =
     let g = read_gave a reports c base n f c' e in
     let b : Behind c' = read_behind a reports c base n f c' h e in
     record {
-      inside = rw g.block (omega (arith, w.inside, w.in_use));
+      inside = rw g.block (omega (arith, bounds, w.inside, w.in_use));
       end_in = rw g.end w.end_in;
       at_in = b.at_in;
       begun = b.begun;
@@ -160,7 +161,7 @@ module _ (a : List ℕ) (used reports : ℕ) (c : Cursor) {n f : ℕ} {c' : Curs
       by-lt (link_of a c.block) used
       (λ u.
       let b = link_of a c.block in
-      read_behind a reports (entered c b) c.first n f c' (part_end_ge (entered c b) b link_size h (omega arith)) (sym (next-at a used reports c b refl p u) ∙ e))
+      read_behind a reports (entered c b) c.first n f c' (part_end_ge (entered c b) b link_size h (omega (arith, bounds))) (sym (next-at a used reports c b refl p u) ∙ e))
       (λ u. cc (next_out a used reports c u)))
 
   step_behind : step_at a used reports c ≡ stepped n f c' → Behind c'
@@ -183,7 +184,7 @@ module _ (a : List ℕ) (used reports : ℕ) (c : Cursor) {n f : ℕ} {c' : Curs
       let v = s.follows w in
       let b : Behind c' = step_behind e in
       record {
-        inside = omega (arith, v.inside, v.in_use);
+        inside = omega (arith, bounds, v.inside, v.in_use);
         end_in = v.end_in;
         at_in = b.at_in;
         begun = b.begun;

@@ -1,11 +1,11 @@
 // Chains of blocks (document 01, "Blocks"): a cursor that gives one posting after another, and reading a whole chain
 // for damage.
-#![tactic(auto)]
+#![tactic(auto, using(blocks::proofs::Sizes::bounds))]
 
 ghost use Rattle.std.specs.Prelude.{◌≡◌, cond, false, IfSome, ◌&&◌, ℕ, ◌+◌, ◌-◌, ◌≤◌, ◌<◌, ltb, eqb, length};
 ghost use Rattle.postings.specs.Coding.{counted, decoded};
 ghost use Rattle.sums.specs.Adding.{Bounded};
-ghost use Rattle.blocks.specs.Fields.{max_word, block_size, place, link_of};
+ghost use Rattle.blocks.specs.Fields.{max_word, block_size, link_size, place, link_of};
 ghost use Rattle.chains.specs.Chains.{part_end, part_at, exhausted, past, past_last, read_at, entered_at, next_block, step_at, step_from, at_head, bad_head, chain_of, is_whole, linked, Follows};
 ghost use Rattle.chains.specs.Parts.{passed, moved_to, passed_to, InPart, Known, part_read};
 
@@ -40,38 +40,41 @@ pub struct Step {
 
 // Whether the part of the cursor's block is read to its end: to the write offset in the tail, elsewhere to the block's
 // end or a null byte.
-#[tactic(auto, unfolding(crate::specs::Chains::exhausted))]
+#[tactic(auto, using(blocks::proofs::Sizes::bounds), unfolding(crate::specs::Chains::exhausted))]
 fn is_exhausted(arena: &[u8], c: Cursor) -> bool
-    requires { place c.block + 64 ≤ length arena.now }
+    requires { place c.block + block_size ≤ length arena.now }
     ensures { result ≡ exhausted arena.now c }
 {
     if c.block == c.tail {
         return c.end <= c.at;
     }
-    64 <= c.at || arena[blocks::place_of(c.block) + c.at] == 0
+    blocks::block_size() <= c.at || arena[blocks::place_of(c.block) + c.at] == 0
 }
 
 // Where the part of the cursor's block ends.
-#[tactic(auto, unfolding(crate::specs::Chains::part_end))]
+#[tactic(auto, using(blocks::proofs::Sizes::bounds), unfolding(crate::specs::Chains::part_end))]
 pub fn part_end(c: Cursor) -> usize
     ensures { result ≡ part_end c c.block }
 {
-    if c.block == c.tail { c.end } else { 64 }
+    if c.block == c.tail {
+        c.end
+    } else {
+        blocks::block_size()
+    }
 }
 
 // The bytes of the cursor's part, from the cursor on: whoever reads a block's postings reads in them, from offset 0.
-#[tactic(auto, using(crate::proofs::Steps::in_part))]
+#[tactic(auto, using(blocks::proofs::Sizes::bounds, crate::proofs::Steps::in_part))]
 fn part_bytes<'a>(arena: &'a [u8], c: Cursor) -> &'a [u8]
     requires { (place c.block + block_size ≤ length arena.now) × (c.end ≤ block_size) × (c.at ≤ part_end c c.block) }
     ensures is { result.now ≡ part_at arena.now c }
     ensures length { length result.now ≡ part_end c c.block - c.at }
 {
-    let start = blocks::place_of(c.block);
-    &arena[start + c.at..start + part_end(c)]
+    blocks::part_of(arena, c.block, c.at, part_end(c))
 }
 
 // The posting at the cursor.
-#[tactic(auto, using(crate::proofs::Steps::in_part))]
+#[tactic(auto, using(blocks::proofs::Sizes::bounds, crate::proofs::Steps::in_part))]
 fn posting_at(arena: &[u8], c: Cursor) -> Option<Decoded>
     requires { (place c.block + block_size ≤ length arena.now) × (c.end ≤ block_size) × (c.at ≤ part_end c c.block) }
     ensures is { result ≡ decoded (part_at arena.now c) }
@@ -107,7 +110,7 @@ fn step_to(c: Cursor, d: Decoded, n: u32) -> Step
 
 // The first posting of a block, at the cursor: its b-gap counts from the first number of the block before, at a head
 // from 0.
-#[tactic(auto, using(crate::proofs::Steps::in_part), unfolding(crate::specs::Chains::read_at, crate::specs::Chains::given, crate::specs::Chains::step_to))]
+#[tactic(auto, using(blocks::proofs::Sizes::bounds, crate::proofs::Steps::in_part), unfolding(crate::specs::Chains::read_at, crate::specs::Chains::given, crate::specs::Chains::step_to))]
 fn read_first(arena: &[u8], reports: u32, c: Cursor, first: u32) -> Result<Option<Step>, Refusal>
     requires { (place c.block + block_size ≤ length arena.now) × (c.end ≤ block_size) × (c.at ≤ part_end c c.block) }
     ensures { result ≡ read_at arena.now reports c first }
@@ -118,7 +121,7 @@ fn read_first(arena: &[u8], reports: u32, c: Cursor, first: u32) -> Result<Optio
 }
 
 // Any other posting of a block, at the cursor: its d-gap counts from the last number.
-#[tactic(auto, using(crate::proofs::Steps::in_part), unfolding(crate::specs::Chains::read_at, crate::specs::Chains::given, crate::specs::Chains::step_to))]
+#[tactic(auto, using(blocks::proofs::Sizes::bounds, crate::proofs::Steps::in_part), unfolding(crate::specs::Chains::read_at, crate::specs::Chains::given, crate::specs::Chains::step_to))]
 fn read_next(arena: &[u8], reports: u32, c: Cursor) -> Result<Option<Step>, Refusal>
     requires { (place c.block + block_size ≤ length arena.now) × (c.end ≤ block_size) × (c.at ≤ part_end c c.block) }
     ensures { result ≡ read_at arena.now reports c c.number }
@@ -146,14 +149,14 @@ fn linked_on(used: Used, next: Option<u32>) -> Option<u32>
 }
 
 // The start of the next block: none where the link leads to no used one, or there are more blocks than used.
-#[tactic(auto, unfolding(crate::specs::Chains::entered))]
+#[tactic(auto, using(blocks::proofs::Sizes::bounds), unfolding(crate::specs::Chains::entered))]
 fn entered(c: Cursor, next: Option<u32>) -> Option<Cursor>
     ensures { result ≡ entered_at c next }
 {
     match next {
         Some(b) if 0 < c.left => Some(Cursor {
             block: b,
-            at: 4,
+            at: blocks::link_size(),
             first: 0,
             left: c.left - 1,
             ..c
@@ -163,9 +166,9 @@ fn entered(c: Cursor, next: Option<u32>) -> Option<Cursor>
 }
 
 // The first posting of the next block.
-#[tactic(auto, using(crate::proofs::Steps::stepping), unfolding(crate::specs::Chains::next_block, crate::specs::Chains::entered))]
+#[tactic(auto, using(blocks::proofs::Sizes::bounds, crate::proofs::Steps::stepping), unfolding(crate::specs::Chains::next_block, crate::specs::Chains::entered))]
 pub fn next_block(used: Used, reports: u32, c: Cursor) -> Result<Option<Step>, Refusal>
-    requires { Follows used.arena.now used.blocks c × (4 ≤ c.end) }
+    requires { Follows used.arena.now used.blocks c × (link_size ≤ c.end) }
     ensures { result ≡ next_block used.entry.arena.now used.entry.blocks reports c }
 {
     let next = entered(c, linked(used, c.block)).ok_or(Refusal::Damaged)?;
@@ -174,9 +177,9 @@ pub fn next_block(used: Used, reports: u32, c: Cursor) -> Result<Option<Step>, R
 
 // One posting after another: the one at the cursor with the cursor past it; none at the chain's end.
 #[inline(always)]
-#[tactic(auto, using(crate::proofs::Steps::stepping), unfolding(crate::specs::Chains::step_at))]
+#[tactic(auto, using(blocks::proofs::Sizes::bounds, crate::proofs::Steps::stepping), unfolding(crate::specs::Chains::step_at))]
 pub fn advance(used: Used, reports: u32, c: Cursor) -> Result<Option<Step>, Refusal>
-    requires { Follows used.arena.now used.blocks c × (4 ≤ c.end) }
+    requires { Follows used.arena.now used.blocks c × (link_size ≤ c.end) }
     ensures { result ≡ step_at used.entry.arena.now used.entry.blocks reports c }
 {
     if is_exhausted(used.arena, c) {
@@ -247,7 +250,7 @@ pub fn pass<const JUDGED: bool>(
 
 // Reads on to the part's end, or to where no sound posting stands. All postings are added up before the last number is
 // judged; only where that is over reports, so that the part is damaged, it is read again for the posting that is.
-#[tactic(auto, using(crate::proofs::Added::added_passed))]
+#[tactic(auto, using(blocks::proofs::Sizes::bounds, crate::proofs::Added::added_passed))]
 fn pass_all(part: &[u8], reports: u32, at: usize, number: u32) -> Passed
     requires { (number ≤ reports) × (length part.now ≤ max_word) }
     ensures { result ≡ passed part.now reports at number reports }
@@ -272,7 +275,7 @@ pub fn moved(c: Cursor, at: usize, number: u32) -> Cursor
 
 // The cursor's place behind what is passed of its block's part, from behind its first posting on, in a chain that was
 // read whole before.
-#[tactic(auto, using(crate::proofs::Steps::in_part, crate::proofs::Passing::passed_known), unfolding(crate::specs::Parts::passed_to))]
+#[tactic(auto, using(blocks::proofs::Sizes::bounds, crate::proofs::Steps::in_part, crate::proofs::Passing::passed_known), unfolding(crate::specs::Parts::passed_to))]
 pub fn pass_part(arena: &[u8], c: Cursor, to: u32) -> Cursor
     requires { InPart arena.now max_word c × Known arena.now max_word c }
     ensures { (reports : ℕ) → Known arena.now reports c → result ≡ passed_to arena.now reports c to }
@@ -293,7 +296,7 @@ pub struct ChainReader<'a> {
 }
 
 // A step from any place: damage where it lies in no used block, or its write offset in no block.
-#[tactic(auto, unfolding(crate::specs::Chains::step_from, crate::specs::Chains::is_place))]
+#[tactic(auto, using(blocks::proofs::Sizes::bounds), unfolding(crate::specs::Chains::step_from, crate::specs::Chains::is_place))]
 pub fn step_from(
     arena: &[u8],
     used: u32,
@@ -305,7 +308,7 @@ pub fn step_from(
     if blocks::capacity_of(arena) < used || used <= place.block {
         return Err(Refusal::Damaged);
     }
-    if place.end < 4 || 64 < place.end {
+    if place.end < blocks::link_size() || blocks::block_size() < place.end {
         return Err(Refusal::Damaged);
     }
     let used = Used {
@@ -334,16 +337,16 @@ pub struct PartRead {
 }
 
 // A tail that is not used, or a write offset out of place.
-#[tactic(auto, unfolding(crate::specs::Chains::bad_head))]
+#[tactic(auto, using(blocks::proofs::Sizes::bounds), unfolding(crate::specs::Chains::bad_head))]
 pub fn is_bad_head(d: Head, used: u32, h: u32) -> bool
     requires { d.length < 256 }
     ensures { result ≡ bad_head d used h }
 {
-    used <= d.tail || d.end <= blocks::part_start(d, h, d.tail) || 64 < d.end
+    used <= d.tail || d.end <= blocks::part_start(d, h, d.tail) || blocks::block_size() < d.end
 }
 
 // The cursor before the first posting of head h.
-#[tactic(auto, unfolding(crate::specs::Chains::at_head))]
+#[tactic(auto, using(blocks::proofs::Fields::part_own), unfolding(crate::specs::Chains::at_head))]
 pub fn at_head(d: Head, used: u32, h: u32) -> Cursor
     requires { (h < used) × (d.length < 256) }
     ensures { result ≡ at_head d used h }
@@ -352,7 +355,7 @@ pub fn at_head(d: Head, used: u32, h: u32) -> Cursor
         tail: d.tail,
         end: d.end,
         block: h,
-        at: 18 + d.length,
+        at: blocks::part_start(d, h, h),
         number: 0,
         first: 0,
         left: used - 1,
@@ -361,7 +364,7 @@ pub fn at_head(d: Head, used: u32, h: u32) -> Cursor
 
 // Reads the part of the cursor's block from the cursor on: its first posting, whose gap counts from `base`, and those
 // behind it. None where no sound posting stands there.
-#[tactic(auto, using(crate::proofs::Steps::in_part), unfolding(crate::specs::Parts::part_read, crate::specs::Parts::opened))]
+#[tactic(auto, using(blocks::proofs::Sizes::bounds, crate::proofs::Steps::in_part), unfolding(crate::specs::Parts::part_read, crate::specs::Parts::opened))]
 fn read_part(arena: &[u8], reports: u32, c: Cursor, base: u32) -> Option<PartRead>
     requires { (place c.block + block_size ≤ length arena.now) × (c.end ≤ block_size) × (base ≤ reports) }
     ensures { result ≡ part_read (part_at arena.now c) reports base }

@@ -6,6 +6,7 @@ use Rattle.chains.specs.Chains.{at_head, entered}
 use Rattle.chains.proofs.Counting.{unsound, start, after, not_read, not-begun, Read, block_read, tail-ended, part_broken, unlinked, entered_is, next_entering}
 use Rattle.chains.proofs.is_sound.Goals as goal
 use Rattle.chains.proofs.is_sound.Goals.{Else-r-c}
+use Rattle.blocks.proofs.Sizes.{bounds}
 
 -- the length of the term is a byte
 pub is_bad_head-requires : goal.is_bad_head-requires
@@ -38,7 +39,7 @@ read : (c : Else-r-c)
 read c = block_read c.loop-r.invariant.entering (sym c.in-Some.is ∙ c.read_part.ensures) c.if-r-c.false
 
 pub overflow_add-c : goal.overflow_add-c
-overflow_add-c c = let w = read (goal.at.overflow_add-c c).Else-r-c in omega (arith, w.within)
+overflow_add-c c = let w = read (goal.at.overflow_add-c c).Else-r-c in omega (arith, bounds, w.within)
 
 pub overflow_add-n : goal.overflow_add-n
 overflow_add-n c = let w = (read (goal.at.overflow_add-n c).Else-r-c).counted in omega (arith, w.few, w.within)
