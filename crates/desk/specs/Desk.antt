@@ -2,7 +2,7 @@
 use Rattle.std.specs.Prelude.{ℕ, zero, suc, ◌+◌, ◌*◌, List, [], ◌∷◌, ◌++◌, Bool, true, cond, Option, Some, None, ltb, eqb, length, take, drop, replicate}
 use Rattle.frames.specs.Refusals.{◌if◌, first_of}
 use Rattle.frames.specs.Frames.{body_length, kind, max_body, wrong_version, wrong_length}
-use Rattle.blocks.specs.Fields.{block_size}
+use Rattle.blocks.specs.Fields.{unit}
 use Rattle.counters.specs.Counters.{Memory, memory}
 use Rattle.ingest.specs.Report.{report_call}
 use Rattle.query.specs.Listing.{list_one_call, list_all_call}
@@ -13,7 +13,7 @@ use Rattle.desk.specs.Text.{refusal_line, report_line, one_line, all_line}
 -- ---- its memory: 1,000 blocks, T = 512, result lists of 16
 
 abbrev pub arena_bytes : ℕ
-arena_bytes = 1000 * block_size
+arena_bytes = 1000 * unit
 
 abbrev pub table_entries : ℕ
 table_entries = 512

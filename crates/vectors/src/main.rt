@@ -1,7 +1,7 @@
 // Answers the questions on standard input, a line each, by the proved functions: hashes, codings, decodings, foldings,
 // frames, chains and whole lists of calls. The stored questions and the expected answers are written by the Rust
 // reference (rust/reference), which shares no code with the functions under test.
-#![tactic(auto)]
+#![tactic(auto, using(blocks::proofs::Sizes::bounds))]
 
 ghost use Rattle.std.specs.Prelude.{IfOk, IfSome, ◌≡◌, false, ◌+◌, ◌<◌, ◌≤◌, length};
 ghost use Rattle.terms.specs.Terms.{max_term};
