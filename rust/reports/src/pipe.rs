@@ -63,7 +63,7 @@ fn ask(line: &Line) -> Result<Asked, Failure> {
         Some(word) if word.starts_with('#') => Ok(Asked::Text(Answer::new())),
         Some("--help") => Ok(Asked::Text(of_text(&help()))),
         Some("--version") => Ok(Asked::Text(of_text(&version()))),
-        Some(_) => parse(&words).map(Asked::Call),
+        Some(_) => parse(words).map(Asked::Call),
     }
 }
 

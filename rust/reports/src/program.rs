@@ -63,7 +63,7 @@ fn try_run(arguments: &[OsString], streams: &mut Streams) -> Result<u8, Failure>
         };
     }
     let words: Result<Vec<String>, Failure> = words.iter().map(|word| text_of(word)).collect();
-    let call = parse(&words?)?;
+    let call = parse(words?)?;
     let mut around = Surroundings {
         input: Some(&mut *streams.input),
         errors: &mut *streams.errors,

@@ -78,7 +78,7 @@ fn answer(
         Some("quit" | "exit") => return Ok(Asked::End),
         Some(_) => {}
     }
-    let call = parse(&words)?;
+    let call = parse(words)?;
     let mut around = Surroundings {
         input: None,
         errors,

@@ -41,6 +41,9 @@ pub fn line(place: usize, word: &str) -> Result<(Vec<u8>, u32), Failure> {
 
 /// The bytes of a term.
 pub fn term(place: usize, word: &str) -> Result<Vec<u8>, Failure> {
+    if word.is_ascii() {
+        return Ok(word.as_bytes().to_vec());
+    }
     let bytes: Result<Vec<u8>, _> = word.chars().map(u8::try_from).collect();
     bytes.map_err(|_| {
         Failure::Usage(format!(

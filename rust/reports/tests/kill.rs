@@ -46,14 +46,13 @@ fn answered(child: &mut Child, reports: &[String], until: Duration) -> Vec<usize
             thread::sleep(until);
         });
         let reader = scope.spawn(move || {
+            let mut output = BufReader::new(stdout);
             let mut numbers = Vec::new();
-            let mut lines = BufReader::new(stdout).lines();
-            while let Some(Ok(line)) = lines.next() {
-                assert_eq!(line, "ok 1");
-                // A line that was cut by the kill is no answer.
-                match lines.next() {
-                    Some(Ok(number)) => numbers.push(number.parse().expect("a number")),
-                    _ => break,
+            while let Some(answer) = whole_line(&mut output) {
+                assert_eq!(answer, "ok 1");
+                match whole_line(&mut output) {
+                    Some(number) => numbers.push(number.parse().expect("a number")),
+                    None => break,
                 }
             }
             numbers
@@ -63,6 +62,13 @@ fn answered(child: &mut Child, reports: &[String], until: Duration) -> Vec<usize
         child.wait().expect("it ends");
         reader.join().expect("the answers")
     })
+}
+
+/// The next line. One that was cut by the kill is no answer.
+fn whole_line(output: &mut impl BufRead) -> Option<String> {
+    let mut line = String::new();
+    output.read_line(&mut line).expect("text");
+    line.strip_suffix('\n').map(str::to_string)
 }
 
 #[test]

@@ -114,7 +114,7 @@ impl Import<'_> {
         if words.first().is_none_or(|word| word.starts_with('#')) {
             return Ok(());
         }
-        let call = parse(&words)?;
+        let call = parse(words)?;
         if call.command.name != "report" {
             let text = "a line of an import begins with report";
             return Err(Failure::Usage(text.to_string()));
