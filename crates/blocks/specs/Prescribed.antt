@@ -2,7 +2,17 @@
 -- postings alone.
 use Rattle.std.specs.Prelude.{ℕ, ◌+◌, ◌-◌, List, [], ◌∷◌, cond, leb, length}
 use Rattle.postings.specs.Coding.{code}
-use Rattle.blocks.specs.Fields.{block_size, head_fixed, link_size}
+
+-- where a block is full, where the postings of a head begin but for its term, and where those of any other block: said
+-- here in the ledger's own words
+abbrev pub full : ℕ
+full = 64
+
+abbrev pub behind_fields : ℕ
+behind_fields = 18
+
+abbrev pub behind_link : ℕ
+behind_link = 4
 
 -- a report that holds a term, with the count there
 pub record Posting : Type 0 where
@@ -30,9 +40,9 @@ opened start p = record {
 unfoldable pub onward : Reach → Posting → Reach
 onward r p =
     let d = r.offset + length (code (p.number - r.last) p.count) in
-    cond (leb d block_size) (record { blocks = r.blocks; offset = d; first = r.first; last = p.number }) (record {
+    cond (leb d full) (record { blocks = r.blocks; offset = d; first = r.first; last = p.number }) (record {
       blocks = r.blocks + 1;
-      offset = link_size + length (code (p.number - r.first) p.count);
+      offset = behind_link + length (code (p.number - r.first) p.count);
       first = p.number;
       last = p.number;
     })
@@ -44,4 +54,4 @@ reached r (p ∷ ps) = reached (onward r p) ps
 -- how many blocks the postings of a term of so many bytes take
 unfoldable pub prescribed : ℕ → List Posting → ℕ
 prescribed n [] = 0
-prescribed n (p ∷ ps) = (reached (opened (head_fixed + n) p) ps).blocks
+prescribed n (p ∷ ps) = (reached (opened (behind_fields + n) p) ps).blocks

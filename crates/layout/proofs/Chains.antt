@@ -127,15 +127,15 @@ offset_in_lem {start} {ps} {c} h =
     rw (get_or-eq_default c.closed c.tail {n = n} (omega arith)) at (h.fits n (omega arith)) in
     omega (arith, h.offset_is, length-append (coded e) (codes c.tail.others), length-code_pos e.gap e.count)
 
--- where a posting is put, by the test
+-- where a posting is put, by the test. What the ledger says of a block's end and of where postings begin is what the index does
 pub onward-stays : (r : Reach) (p : Posting) → stays r p ≡ true
     → onward r p ≡ record { blocks = r.blocks; offset = r.offset + length (coded (d_entry r p)); first = r.first; last = p.number }
-unfolding onward stays
+unfolding onward stays block_size
 onward-stays r p e = rw e
 
 pub onward-next : (r : Reach) (p : Posting) → stays r p ≡ false
     → onward r p ≡ record { blocks = r.blocks + 1; offset = link_size + length (coded (b_entry r p)); first = p.number; last = p.number }
-unfolding onward stays
+unfolding onward stays block_size link_size
 onward-next r p e = rw e
 
 module _ {start : ℕ} {ps : List Posting} {c : Chain} {p : Posting} (h : Holds start ps c) (f : After (last_from 0 ps) p) where
@@ -245,5 +245,5 @@ counts-puts c (p ∷ ps) h = counts-puts (put c p) ps (counts_as (stays c.reach 
 
 -- THE BLOCKS of a chain are as many as its postings prescribe
 pub blocks-prescribed : (n : ℕ) (p : Posting) (ps : List Posting) → length (blocks (puts (begun (head_fixed + n) p) ps)) ≡ prescribed n (p ∷ ps)
-unfolding begun opened prescribed
+unfolding begun opened prescribed head_fixed
 blocks-prescribed n p ps = counts-puts (begun (head_fixed + n) p) ps refl ∙ rw (reach-puts (begun (head_fixed + n) p) ps)

@@ -8,7 +8,7 @@ use native.Mathlib.Omega.{arith}
 use lib.ListN.{length, length-append}
 use Rattle.basics.proofs.Parts.{get_or-last}
 use Rattle.terms.specs.Terms.{max_term}
-use Rattle.blocks.specs.Fields.{link_size}
+use Rattle.blocks.specs.Fields.{link_size, head_fixed}
 use Rattle.blocks.specs.Writes.{fits}
 use Rattle.blocks.specs.Prescribed.{Posting, opened, reached, prescribed}
 use Rattle.chains.specs.Chains.{last_from}
@@ -29,7 +29,7 @@ unfolding chain begun
 chain-reach t = reach-puts (begun (start_of t) t.first) t.rest
 
 blocks_is : (t : Held) → (chain t).reach.blocks ≡ prescribed (length t.name) (postings_of t)
-unfolding prescribed
+unfolding prescribed head_fixed
 blocks_is t = rw (chain-reach t)
 
 module _ {used : ℕ} {t : Held} (s : Sound used t) where

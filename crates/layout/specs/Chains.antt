@@ -1,7 +1,7 @@
 -- A term's postings laid out as a chain of blocks (document 01, "Blocks"): which posting goes to which block, and with
 -- which gap.
 use Rattle.std.specs.Prelude.{ℕ, ◌+◌, ◌-◌, ◌≤◌, ◌<◌, List, [], ◌∷◌, ◌++◌, Bool, true, false, leb, length, get_or}
-use Rattle.postings.specs.Coding.{code}
+use Rattle.postings.specs.Coding.{max_count, code}
 use Rattle.blocks.specs.Fields.{max_word, block_size}
 use Rattle.blocks.specs.Prescribed.{Posting, Reach, opened, onward}
 
@@ -12,7 +12,7 @@ pub record After (last : ℕ) (p : Posting) : Type 0 where
   pub above : last < p.number
   pub number_small : p.number ≤ max_word
   pub count_pos : 1 ≤ p.count
-  pub count_small : p.count ≤ max_word
+  pub count_small : p.count ≤ max_count
 
 -- postings that may stand behind number `last`, one behind the other
 pub data Rising : ℕ → List Posting → Type 0 where

@@ -13,8 +13,8 @@ use Rattle.basics.proofs.Cases.{by-eq}
 use Rattle.frames.specs.Frames.{Line}
 use Rattle.blocks.specs.declared.Head.{Head}
 use Rattle.postings.specs.Coding.{code}
-use Rattle.blocks.specs.Fields.{block_size, link_size, capacity, link_of, head_of}
-use Rattle.blocks.specs.Prescribed.{Posting, Reach, opened, onward, reached}
+use Rattle.blocks.specs.Fields.{capacity, link_of, head_of}
+use Rattle.blocks.specs.Prescribed.{full, behind_link, Posting, Reach, opened, onward, reached}
 use Rattle.blocks.specs.Writes.{fits}
 use Rattle.chains.specs.Chains.{whole, last_from, chain_of}
 use Rattle.chains.proofs.Laws.{chain-whole}
@@ -102,13 +102,13 @@ rising_length (next f s) = omega (arith, rising_length s)
 first_le : {k : ℕ} {ps : List Posting} (c : Reach) → c.last ≡ k → c.first ≤ k → Rising k ps → (reached c ps).first ≤ last_from k ps
 unfolding reached last_from onward
 first_le c e h none = h
-first_le {k} c e h (next {p = p} {ps = ps} f s) = go (leb (c.offset + length (code (p.number - c.last) p.count)) block_size) (λ x q g. first_le x q g s)
+first_le {k} c e h (next {p = p} {ps = ps} f s) = go (leb (c.offset + length (code (p.number - c.last) p.count)) full) (λ x q g. first_le x q g s)
   where
     go : (b : Bool) → ((x : Reach) → x.last ≡ p.number → x.first ≤ p.number → (reached x ps).first ≤ last_from p.number ps)
         → (reached (cond b (record { blocks = c.blocks; offset = c.offset + length (code (p.number - c.last) p.count); first = c.first; last = p.number })
-        (record { blocks = c.blocks + 1; offset = link_size + length (code (p.number - c.first) p.count); first = p.number; last = p.number })) ps).first ≤ last_from p.number ps
+        (record { blocks = c.blocks + 1; offset = behind_link + length (code (p.number - c.first) p.count); first = p.number; last = p.number })) ps).first ≤ last_from p.number ps
     go true ih = ih (record { blocks = c.blocks; offset = c.offset + length (code (p.number - c.last) p.count); first = c.first; last = p.number }) refl (omega (arith, f.above))
-    go false ih = ih (record { blocks = c.blocks + 1; offset = link_size + length (code (p.number - c.first) p.count); first = p.number; last = p.number }) refl (omega arith)
+    go false ih = ih (record { blocks = c.blocks + 1; offset = behind_link + length (code (p.number - c.first) p.count); first = p.number; last = p.number }) refl (omega arith)
 
 first-all : (start : ℕ) {p : Posting} {ps : List Posting} → Rising 0 (p ∷ ps) → (reached (opened start p) ps).first ≤ last_from 0 (p ∷ ps)
 unfolding last_from opened

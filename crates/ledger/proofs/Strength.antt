@@ -15,7 +15,6 @@ use Rattle.terms.specs.Terms.{allowed, capital, fold_byte, folded, is_term}
 use Rattle.frames.specs.Refusals.{first_of}
 use Rattle.frames.specs.Frames.{version, body_length, kind, term_at, count_at, past_field, fields_up_to, fields, wrong_version, wrong_length, wrong_kind, passes_end, wrong_terms, bad_term, zero_count, repeats_after, repeated_term, head_rows, field_rows, report_rows, query_rows, query_refusal, line_at}
 use Rattle.postings.specs.Coding.{groups, vbyte, code}
-use Rattle.blocks.specs.Fields.{block_size, head_fixed, link_size}
 use Rattle.blocks.specs.Prescribed.{opened, onward, reached, prescribed}
 use Rattle.ledger.specs.Ledger.{Report, lines_in, lines_of, named_in, named_by, start_of, in_report, in_reports, postings_of, with_name, names_after, names_from, names, sum, prescribed_blocks, earlier_rows, ledger_rows, enter_report, holds_term, count_in, first_count, list_from, listed, fill_two, fill_list}
 use Rattle.ledger.specs.Calls.{Call, start, report, one-term, all-terms, Answer, started, taken, of_one, of_all, frame_of, Bytes, Framed, none, one, ledger_one, ledger_all, ledger_step, answers, final, Agrees}
@@ -61,7 +60,7 @@ unfolding all trial frame_of
 trial_bytes = refl
 
 all_differ : all differs faults ≡ true
-unfolding all any same word_at allowed capital fold_byte folded is_term first_of version body_length kind term_at count_at past_field fields_up_to fields wrong_version wrong_length wrong_kind passes_end wrong_terms bad_term zero_count repeats_after repeated_term head_rows field_rows report_rows query_rows query_refusal line_at groups vbyte code opened onward reached prescribed lines_in lines_of named_in named_by start_of in_report in_reports postings_of with_name names_after names_from names sum prescribed_blocks earlier_rows ledger_rows enter_report holds_term count_in first_count list_from listed fill_two fill_list ledger_one ledger_all ledger_step answers keep wrong_step full in_first counted_more none_left faults trial flag listing spelt differs block_size head_fixed link_size
+unfolding all any same word_at allowed capital fold_byte folded is_term first_of version body_length kind term_at count_at past_field fields_up_to fields wrong_version wrong_length wrong_kind passes_end wrong_terms bad_term zero_count repeats_after repeated_term head_rows field_rows report_rows query_rows query_refusal line_at groups vbyte code opened onward reached prescribed lines_in lines_of named_in named_by start_of in_report in_reports postings_of with_name names_after names_from names sum prescribed_blocks earlier_rows ledger_rows enter_report holds_term count_in first_count list_from listed fill_two fill_list ledger_one ledger_all ledger_step answers keep wrong_step full in_first counted_more none_left faults trial flag listing spelt differs
 all_differ = refl
 
 -- ---- so each is told apart by the trial, and none agrees

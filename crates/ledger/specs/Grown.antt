@@ -3,7 +3,7 @@ use Rattle.std.specs.Prelude.{ℕ, suc, ◌≤◌, ◌≡◌, List, [], ◌∷�
 use Rattle.basics.specs.Lists.{same}
 use Rattle.terms.specs.Terms.{max_term}
 use Rattle.frames.specs.Frames.{Line}
-use Rattle.blocks.specs.Fields.{max_word}
+use Rattle.postings.specs.Coding.{max_count}
 use Rattle.blocks.specs.Prescribed.{Posting}
 use Rattle.layout.specs.Held.{Held}
 use Rattle.layout.specs.Held.{head_no}
@@ -59,7 +59,7 @@ entries_of ix = map entry_of ix.terms
 pub record GoodLine (l : Line) : Type 0 where
   pub short : length l.term ≤ max_term
   pub count_pos : 1 ≤ l.count
-  pub count_small : l.count ≤ max_word
+  pub count_small : l.count ≤ max_count
 
 -- no line has the term w
 pub data Apart (w : List ℕ) : List Line → Type 0 where
