@@ -73,7 +73,8 @@ fn part_bytes<'a>(arena: &'a [u8], c: Cursor) -> &'a [u8]
     blocks::part_of(arena, c.block, c.at, part_end(c))
 }
 
-// The posting at the cursor.
+// The posting at the cursor. It is taken into its two callers: what is decoded then stays out of memory.
+#[inline(always)]
 #[tactic(auto, using(blocks::proofs::Sizes::bounds, crate::proofs::Steps::in_part))]
 fn posting_at(arena: &[u8], c: Cursor) -> Option<Decoded>
     requires { (place c.block + block_size ≤ length arena.now) × (c.end ≤ block_size) × (c.at ≤ part_end c c.block) }
@@ -175,7 +176,8 @@ pub fn next_block(used: Used, reports: u32, c: Cursor) -> Result<Option<Step>, R
     read_first(used.arena, reports, next, c.first)
 }
 
-// One posting after another: the one at the cursor with the cursor past it; none at the chain's end.
+// One posting after another: the one at the cursor with the cursor past it; none at the chain's end. It is taken into
+// the loops that call it, so that a step within a part makes no call.
 #[inline(always)]
 #[tactic(auto, using(blocks::proofs::Sizes::bounds, crate::proofs::Steps::stepping), unfolding(crate::specs::Chains::step_at))]
 pub fn advance(used: Used, reports: u32, c: Cursor) -> Result<Option<Step>, Refusal>
