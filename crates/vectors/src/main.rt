@@ -470,9 +470,24 @@ fn answer_all(rt: &impl Print, questions: &[u8]) -> io::Result<()> {
     Ok(())
 }
 
+// Fills the buffer from standard input, or up to the input's end, and tells how many bytes were read. What comes behind
+// is not waited for, and no memory is asked for.
+fn read_full(rt: &HostRuntime, into: &mut [u8]) -> io::Result<usize>
+    ensures { IfOk result (λ n. n ≤ length into.old) }
+{
+    let mut n: usize = 0;
+    while n < into.len() {
+        let got = rt.stdin().read(&mut into[n..])?;
+        if got == 0 {
+            break;
+        }
+        n += got;
+    }
+    Ok(n)
+}
+
 fn main(rt: HostRuntime) -> io::Result<()> {
-    let mut questions = Vec::new(rt.alloc());
-    rt.stdin().read_to_end(&mut questions)?;
-    let taken = questions.len().min(131072);
-    answer_all(&rt, &questions[..taken])
+    let mut questions = [0u8; 131072];
+    let n = read_full(&rt, &mut questions)?;
+    answer_all(&rt, &questions[..n])
 }
