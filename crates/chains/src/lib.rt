@@ -5,7 +5,7 @@
 ghost use Rattle.std.specs.Prelude.{◌≡◌, cond, false, IfSome, ◌&&◌, ℕ, ◌+◌, ◌-◌, ◌≤◌, ◌<◌, ltb, eqb, length};
 ghost use Rattle.postings.specs.Coding.{counted, decoded};
 ghost use Rattle.sums.specs.Adding.{Bounded};
-ghost use Rattle.blocks.specs.Fields.{max_word, block_size, link_size, place, link_of};
+ghost use Rattle.blocks.specs.Fields.{max_word, block_size, link_size, place, link_of, head_of};
 ghost use Rattle.chains.specs.Chains.{part_end, part_at, exhausted, past, past_last, read_at, entered_at, next_block, step_at, step_from, at_head, bad_head, chain_of, is_whole, linked, Follows};
 ghost use Rattle.chains.specs.Parts.{passed, moved_to, passed_to, InPart, Known, part_read};
 
@@ -381,6 +381,15 @@ fn read_part(arena: &[u8], reports: u32, c: Cursor, base: u32) -> Option<PartRea
     Some(PartRead { first, rest })
 }
 
+// The fields of a head, whose term's length is a byte: what a slice knows of its bytes is not known of a field.
+fn head_in(arena: &[u8], h: u32) -> Head
+    requires { place h + block_size ≤ length arena.now }
+    ensures fields { result ≡ head_of arena.now h }
+    ensures short { result.length < 256 }
+{
+    blocks::head_of(arena, h)
+}
+
 // Whether n postings up to a number are those that a head says.
 fn agrees(d: Head, n: u32, number: u32) -> bool
     ensures { result ≡ eqb n d.postings && eqb number d.last }
@@ -396,7 +405,7 @@ pub fn is_sound(used: Used, reports: u32, h: u32) -> bool
     ensures { result ≡ is_whole (chain_of used.entry.arena.now used.entry.blocks reports h) }
 {
     let arena = used.arena;
-    let d = blocks::head_of(arena, h);
+    let d = head_in(arena, h);
     if is_bad_head(d, used.blocks, h) {
         return false;
     }

@@ -1,6 +1,5 @@
 -- Each turn reads a block, and what is left to read, judged by the postings counted so far, stays the answer.
 use Rattle.std.proofs.Common.{rules, ◌≡◌, Some, ◌+◌, sym, ap, ◌∙◌, arith}
-use Rattle.blocks.proofs.Fields.{head-short}
 use Rattle.chains.specs.declared.Cursor.{Cursor}
 use Rattle.chains.specs.Chains.{at_head, entered}
 use Rattle.chains.proofs.Counting.{unsound, start, after, not_read, not-begun, Read, block_read, tail-ended, part_broken, unlinked, entered_is, next_entering}
@@ -10,20 +9,20 @@ use Rattle.blocks.proofs.Sizes.{bounds}
 
 -- the length of the term is a byte
 pub is_bad_head-requires : goal.is_bad_head-requires
-is_bad_head-requires c = head-short _ _ c.head_of-d.ensures c.args.used.fits
+is_bad_head-requires c = c.head_in-d.ensures.short
 
 pub at_head-c-requires : goal.at_head-c-requires
-at_head-c-requires c = (omega arith, head-short _ _ c.head_of-d.ensures c.args.used.fits)
+at_head-c-requires c = (omega arith, c.head_in-d.ensures.short)
 
 pub returns-then-is_bad_head : goal.returns-then-is_bad_head
-returns-then-is_bad_head c = sym (unsound _ _ _ _ c.head_of-d.ensures (sym c.is_bad_head.ensures ∙ c.if-is_bad_head.true))
+returns-then-is_bad_head c = sym (unsound _ _ _ _ c.head_in-d.ensures.fields (sym c.is_bad_head.ensures ∙ c.if-is_bad_head.true))
 
 pub loop-r-init : goal.loop-r-init
 unfolding at_head
 loop-r-init c = record {
   entering =
       rw c.at_head-c.ensures
-      (start _ _ _ _ c.head_of-d.ensures c.args.used.inside c.requires (sym c.is_bad_head.ensures ∙ c.if-is_bad_head.false));
+      (start _ _ _ _ c.head_in-d.ensures.fields c.args.used.inside c.requires (sym c.is_bad_head.ensures ∙ c.if-is_bad_head.false));
   next_is = rw c.at_head-c.ensures c.linked-next.ensures;
 }
 
@@ -35,7 +34,7 @@ returns-then-r-c c = sym (not-begun c.loop-r.invariant.entering (sym c.in-Some.i
 
 -- a part was read
 read : (c : Else-r-c)
-    → Read c.args.used.arena.now c.args.used.blocks c.args.reports c.args.h c.head_of-d.result (after c.loop-r.c c.in-Some.r) (c.loop-r.n + (1 + c.in-Some.r.rest.postings))
+    → Read c.args.used.arena.now c.args.used.blocks c.args.reports c.args.h c.head_in-d.result (after c.loop-r.c c.in-Some.r) (c.loop-r.n + (1 + c.in-Some.r.rest.postings))
 read c = block_read c.loop-r.invariant.entering (sym c.in-Some.is ∙ c.read_part.ensures) c.if-r-c.false
 
 pub overflow_add-c : goal.overflow_add-c

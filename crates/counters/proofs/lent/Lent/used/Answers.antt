@@ -5,4 +5,4 @@ use Rattle.counters.proofs.lent.Lent.used.Goals as goal
 
 pub invariant_of-result : goal.invariant_of-result
 invariant_of-result c =
-    let l = c.args.self in record { fits = l.fits; inside = used-inside l.arena.now l.counters.used (right _ _ _ l.right).inside }
+    let l = c.args.self in record { inside = used-inside l.arena.now l.counters.used (right _ _ _ l.right).inside }
