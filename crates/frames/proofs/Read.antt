@@ -18,8 +18,8 @@ use Rattle.basics.proofs.Cases.{by-lt}
 use Rattle.terms.specs.Terms.{folded, fnv1a, is_term}
 use Rattle.terms.proofs.Laws.{length-folded}
 use Rattle.frames.specs.Frames.{max_body, count_bytes, first_line, term_at, count_at, past_field, Field, fields, lines, passes_end, bad_term, zero_count, folded_at}
-use Rattle.frames.specs.Read.{name_at, Folds, max_lines, hashes_of, Hashed, Read}
-use Rattle.frames.proofs.Fields.{length_term, past_five, fields_end, fields_more, passes_end_lem, passes_here, passes_on}
+use Rattle.frames.specs.Read.{name_at, Folds, LineAt, max_lines, hashes_of, Hashed, Read}
+use Rattle.frames.proofs.Fields.{field_term, length_term, past_five, fields_end, fields_more, passes_end_lem, passes_here, passes_on}
 
 -- ---- the folded terms
 
@@ -38,6 +38,10 @@ module _ (f names : List ℕ) (at : ℕ) (h : Field 0 f at) (room : length f ≤
       let l = length-folded (term_at f at) in
       ap (put_mid (at + 1) (get_or f at 0) names) (sets-whole part (folded (term_at f at)) (sym same_room ∙ sym l))
       ∙ put_mid_sets (at + 1) (get_or f at 0) names (folded_at f at) (l ∙ length_term f at h) (omega (arith, h.ends))
+
+-- a whole line's folded term is that of the field here
+pub line_named : {f names : List ℕ} {at : ℕ} → LineAt f names at → Field 0 f at × (name_at f names at ≡ folded_at f at)
+line_named {f} {names} {at} w = (field_term count_bytes f at w.whole, w.folds)
 
 module _ (f names : List ℕ) (at : ℕ) where
   -- at the frame's end no line is left

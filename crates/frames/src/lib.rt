@@ -29,7 +29,7 @@ ghost use Rattle.std.specs.Iterator.{at_most};
 ghost use Rattle.frames.specs.Walk.{Goes, from_first};
 ghost use Rattle.frames.specs.Answers.{byte_of, IsKind, IsQuery};
 ghost use Rattle.frames.specs.Repeats.{chain, Chained};
-ghost use Rattle.frames.specs.Read.{Folds, LineAt, max_lines, hashes_of, Read};
+ghost use Rattle.frames.specs.Read.{Folds, LineAt, name_at, max_lines, hashes_of, Read};
 ghost use Rattle.std.proofs.lemmas.List.Edits.{sets};
 ghost use Rattle.terms.specs.Terms.{judged_as};
 ghost use Rattle.refusals.specs.Numbers.{refused_under};
@@ -121,10 +121,11 @@ impl Cursor {
         terms::fold(self.term(frame), table, &mut names[self.term_range(frame)])
     }
 
-    // The folded term of the line here.
+    // The folded term of the field here.
     #[tactic(auto, unfolding(crate::specs::Frames::past_field))]
-    pub fn name<'a>(self, folded: FoldedFrame<'a>) -> &'a [u8]
-        requires { LineAt folded.frame.now folded.names.now self.at }
+    pub fn name<'n>(self, folded: FoldedFrame<'_, 'n>) -> &'n [u8]
+        requires { Field 0 folded.frame.now self.at
+            × (name_at folded.frame.now folded.names.now self.at ≡ folded_at folded.frame.now self.at) }
         ensures { result.now ≡ folded_at folded.entry.frame.now self.at }
     {
         &folded.names[self.term_range(folded.frame)]

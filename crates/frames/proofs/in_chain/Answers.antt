@@ -2,6 +2,7 @@ use Rattle.std.proofs.Common.{ℕ, ◌≡◌, ◌<◌, ◌||◌, Bool, List, get
 use Rattle.basics.specs.Lists.{same}
 use Rattle.frames.specs.Frames.{folded_at}
 use Rattle.frames.specs.Repeats.{slot_of, chain, Chained}
+use Rattle.frames.proofs.Read.{line_named}
 use Rattle.frames.proofs.Repeats.{has_term, has_none, has_more}
 use Rattle.frames.proofs.in_chain.Goals as goal
 
@@ -10,8 +11,11 @@ turn : (f t : List ℕ) {names earlier : List ℕ} {whole at : ℕ} (last : ℕ)
     → has_term f t (chain earlier last) ≡ r || has_term f t (chain earlier (get_or earlier (slot_of at) 0))
 turn f t {earlier} last h p e q = e ∙ has_more f t earlier h.falls _ p ∙ rw q
 
+pub name-requires : goal.name-requires
+name-requires c = line_named c.requires.1
+
 pub name-requires-in-loop-at : goal.name-requires-in-loop-at
-name-requires-in-loop-at c = c.loop-at.invariant.line (omega arith)
+name-requires-in-loop-at c = line_named (c.loop-at.invariant.line (omega arith))
 
 pub returns-then-same_bytes : goal.returns-then-same_bytes
 returns-then-same_bytes c =

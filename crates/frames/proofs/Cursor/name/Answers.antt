@@ -7,4 +7,4 @@ unfolding name_at
 returns c =
     let r = c.term_range in
     let e : r.result.end - r.result.start ≡ get_or c.args.folded.frame.now c.args.self.at 0 = omega (arith, r.ensures.0, r.ensures.1) in
-    rw (e, r.ensures.0) c.requires.folds
+    rw (e, r.ensures.0) c.requires.1

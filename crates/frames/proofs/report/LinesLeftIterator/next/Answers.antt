@@ -3,7 +3,7 @@ use Rattle.frames.specs.declared.report.LinesLeft.{LinesLeft}
 use Rattle.frames.specs.Frames.{count_bytes}
 use Rattle.frames.proofs.Fields.{whole-on}
 use Rattle.frames.proofs.Conditions.{good_on}
-use Rattle.frames.proofs.Read.{folds_here, folds_on, hashes-some, hashes-none, first-hash, other-hashes}
+use Rattle.frames.proofs.Read.{line_named, folds_here, folds_on, hashes-some, hashes-none, first-hash, other-hashes}
 use Rattle.frames.proofs.Laws.{Sound, sound_field, sound-name, sound-some}
 use Rattle.frames.proofs.report.LinesLeftIterator.next.Goals as goal
 
@@ -25,7 +25,7 @@ pub name-requires : goal.name-requires
 name-requires c =
     let s = c.args.self.now in
     let h = starts s (omega (arith, c.in_ok-hash.ensures.cases.1)) in
-    record { whole = sound_field (sound_left s) h; folds = folds_here s.frame.now s.names.now s.at h s.folded }
+    line_named (record { whole = sound_field (sound_left s) h; folds = folds_here s.frame.now s.names.now s.at h s.folded })
 
 pub count-requires : goal.count-requires
 count-requires c =
