@@ -20,12 +20,12 @@ pub struct Judged {
     pub hash: u32,
 }
 
-// The folding table as it is lent to those who fold: a function that reads the constant itself would copy it with every
-// byte.
+// The folding table, lent from where it stands to those who fold: a function that indexes the constant itself lays it
+// out anew on its stack.
 #[derive(Clone, Copy)]
 pub struct FoldingTable {
-    entries: [u8; 256],
-    ghost rule: { (b : ℕ) → b < 256 → get_or entries b 0 ≡ fold_byte b },
+    entries: &'static [u8; 256],
+    ghost rule: { (b : ℕ) → b < 256 → get_or entries.now b 0 ≡ fold_byte b },
 }
 
 // The folded byte, or 0 where the byte is barred.
@@ -56,7 +56,7 @@ const PRIME: u32 = 16777619;
 impl FoldingTable {
     #[tactic(auto, using(crate::proofs::Folding::rule))]
     pub fn new() -> Self {
-        FoldingTable { entries: FOLDED }
+        FoldingTable { entries: &FOLDED }
     }
 
     // A byte folded, or 0 where it is barred.
