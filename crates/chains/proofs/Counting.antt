@@ -205,7 +205,7 @@ module _ {a : List ℕ} {used reports h : ℕ} {d : Head} {k : Cursor} {base n :
         begun = z.begun;
         first_in_lem = rw f u;
         counted = rw j (counted_on (first_counted s) o.1);
-        early = stopped_damage z reports k.at used p o (omega arith) (passed-stops (part_at a k) reports m.length (base + m.gap) reports);
+        early = stopped_damage z reports k.at used p (omega arith) (passed-stops (part_at a k) reports m.length (base + m.gap) reports);
       })
 
   all_read : (x : Option Decoded) → decoded (part_at a k) ≡ x → {r : PartRead} → Some r ≡ part_read (part_at a k) reports base → k.number < r.first

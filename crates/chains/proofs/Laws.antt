@@ -8,7 +8,7 @@ use Rattle.std.specs.Prelude.{Some, None, Ok, Err}
 use native.Mathlib.Omega.{arith}
 use lib.Dec.{leb, eqb}
 use lib.ListN.{length}
-use borrow.Author.Tests.{ltb-false, leb-false, eqb-true}
+use borrow.Author.Tests.{ltb-false, leb-false, eqb-true, eq-eqb}
 use Rattle.basics.proofs.Lists.{or_left, or_right, and_left, and_right}
 use Rattle.basics.proofs.Cases.{by-lt, by-eq}
 use Rattle.blocks.specs.declared.Head.{Head}
@@ -250,6 +250,14 @@ chain-whole a used reports h ps e = go (bad_head (head_of a h) used h) refl
           postings = w.1;
           last = w.2;
         }
+
+-- a chain is whole where its head is sound and agrees with the postings
+pub chain-from : (a : List ℕ) (used reports h : ℕ) (ps : List Posting) → bad_head (head_of a h) used h ≡ false
+    → run (suc reports) a used reports (at_head (head_of a h) used h) ≡ whole ps → length ps ≡ (head_of a h).postings → last_from 0 ps ≡ (head_of a h).last
+    → chain_of a used reports h ≡ whole ps
+unfolding agreeing
+chain-from a used reports h ps e w p q =
+    chain_good a used reports h e ∙ rw (w, eq-eqb (length ps) (head_of a h).postings p, eq-eqb (last_from 0 ps) (head_of a h).last q)
 
 -- what is read whole is a list of postings
 pub is-whole : (r : Reading) → is_whole r ≡ true → (ps : List Posting) × (r ≡ whole ps)

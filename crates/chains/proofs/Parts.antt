@@ -237,9 +237,9 @@ module _ {a : List ℕ} {reports : ℕ} {c : Cursor} (w : InPart a reports c) (t
       pass-keeps part reports to On on_further (length part) (sum_of at c.number) (rw (← s) (w, here))
 
   -- where reading on up to reports stops before the part's end, the cursor's step is damage
-  pub stopped_damage : (used : ℕ) (p : Passed) → On p → reports ≤ to → Stopped part reports to p → exhausted a (m p) ≡ false → step_at a used reports (m p) ≡ damage
+  pub stopped_damage : (used : ℕ) (p : Passed) → reports ≤ to → Stopped part reports to p → exhausted a (m p) ≡ false → step_at a used reports (m p) ≡ damage
   unfolding read_at part_end
-  stopped_damage used p i r s h = go (decoded (drop p.at part)) refl s
+  stopped_damage used p r s h = go (decoded (drop p.at part)) refl s
     where
       found : (x : Option Decoded) → decoded (drop p.at part) ≡ x → step_at a used reports (m p) ≡ given reports (m p) p.number x
       found x q = step_on a used reports (m p) h w.begun ∙ ap (given reports (m p) p.number) (ap decoded (ahead p) ∙ q)

@@ -21,7 +21,7 @@ use Rattle.desk.proofs.Cutting.{lines-append, memory-append}
 -- ---- what is left is moved to the front
 
 module _ (input : List ℕ) (held taken : ℕ) (h : held ≤ length input) (t : taken ≤ held) where
-  kept_front : take (held - taken) (copy_within input taken held 0) ≡ drop taken (take held input)
+  pub kept_front : take (held - taken) (copy_within input taken held 0) ≡ drop taken (take held input)
   kept_front =
       let part = take (held - taken) (drop taken input) in
       let e : length part ≡ held - taken = simp (length-take, length-drop) (omega arith) in

@@ -47,7 +47,7 @@ module _ (m : Memory) (f : List ℕ) where
     call-rest = first-none _ (report-numbered f) z
 
     -- 8: wrong counters
-    call_wrong : wrong_counters m.arena m.table m.counters ≡ true → call_refusal m f ≡ 8
+    pub call_wrong : wrong_counters m.arena m.table m.counters ≡ true → call_refusal m f ≡ 8
     unfolding row8
     call_wrong e = call-rest ∙ first_holds row8 _ e
 

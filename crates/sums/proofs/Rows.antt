@@ -84,7 +84,7 @@ module _ (s : List ℕ) (j : ℕ) where
   mark_lane = simp add_assoc
 
 -- the lanes add up to the rows
-lanes_total : (f : ℕ → ℕ) (xs : List ℕ) → Lane f xs → sum xs ≡ sum_from f 0 48
+pub lanes_total : (f : ℕ → ℕ) (xs : List ℕ) → Lane f xs → sum xs ≡ sum_from f 0 48
 unfolding lane
 lanes_total f xs w =
     sum_drop 16 xs 0 (sym w.places)
@@ -192,7 +192,7 @@ module _ (s : List ℕ) (o : ℕ) (len : o + 2 + 48 ≤ length s) (closed : is_s
       (λ u. one j n c b i h (suc m) e w u (λ n c. rows (suc m) (j + 1) n c))
       (λ z. pair j n c b i h m e w (omega arith) (λ n c. rows m (j + 2) n c))
 
-  rows_add : is_second (byte s (o + 1)) (byte s o) ≡ false → sum_from (mark_at s) o 48 < 64 → (n c : ℕ) → Add 48 o n c
+  pub rows_add : is_second (byte s (o + 1)) (byte s o) ≡ false → sum_from (mark_at s) o 48 < 64 → (n c : ℕ) → Add 48 o n c
   rows_add b w n c = rows 48 o n c (omega arith) b w
 
 -- ---- a window

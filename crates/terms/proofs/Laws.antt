@@ -109,7 +109,7 @@ pub mixed_small : (hash b : ℕ) → mixed hash b < 2 ^ 32
 unfolding mixed
 mixed_small hash b = omega arith
 
-mixed_all_small : (hash : ℕ) (s : List ℕ) → hash < 2 ^ 32 → fold mixed hash s < 2 ^ 32
+pub mixed_all_small : (hash : ℕ) (s : List ℕ) → hash < 2 ^ 32 → fold mixed hash s < 2 ^ 32
 mixed_all_small hash [] h = h
 mixed_all_small hash (b ∷ s) h = mixed_all_small (mixed hash b) s (mixed_small hash b)
 
