@@ -153,29 +153,25 @@ fn add_rows(part: &[u8], from: Sum<u64>, stop: usize) -> Sum<u64>
 // Adds up all postings of a part from offset `at` on, behind the posting of that number: by rows, from the first code
 // that has two bytes between `at` and itself. The posting before `at` may be a block's first, and the two bytes of its
 // large b-gap may look as if a code were still open. Where rows cannot be told their bytes are added up posting by
-// posting, and then rows again. What is left in the end is added up posting by posting too: fewer bytes than rows have,
-// or fewer than twice as many where rows cannot be told.
+// posting, and then rows again. Fewer bytes than rows have are left in the end, and added up posting by posting too.
 pub fn add_all(part: &[u8], at: usize, number: u32) -> Sum<u64>
     requires { length part.now ≤ max_part }
     ensures { result ≡ added_to part.now (length part.now) (sum_of at number) }
 {
     let n = part.len();
-    let none = Sum {
+    let mut sum = Sum {
         at,
         number: u64::from(number),
         postings: 0,
     };
-    if n.saturating_sub(at) < ROWS {
-        return add_up(part, none, n);
-    }
-    let mut sum = add_rows(part, none, at + 2);
-    while 2 * ROWS <= n.saturating_sub(sum.at) {
-        let stop = sum.at + ROWS;
+    let mut stop = at.saturating_add(2);
+    while ROWS <= n.saturating_sub(sum.at) {
         sum = add_rows(part, sum, stop);
         // where no posting is decoded the sum is whole
         if sum.at < stop {
             break;
         }
+        stop = sum.at.saturating_add(ROWS);
     }
     add_up(part, sum, n)
 }
